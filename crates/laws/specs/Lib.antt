@@ -1,0 +1,9 @@
+pub mod Tests
+pub mod Locality
+pub mod Search
+pub mod Demand3
+pub mod Listed
+pub mod Digits
+pub mod Decoding
+pub mod Calendar
+pub mod Times
