@@ -1,0 +1,48 @@
+-- The loop goes through the part byte by byte; its invariant is `Passing`.
+use borrow.Author.Needs.{needs}
+use Prim.Native.Nat.{_-_, _≤_}
+use lib.ListN.{length}
+use Rattle.crc32.specs.Passing.{Passing, pass-start, pass-step, pass-end}
+use Rattle.crc32.proofs.update.Statement.{statement}
+use Rattle.crc32.proofs.update.Tie as tie
+
+abbrev Inv-loop : tie.InvT-loop
+Inv-loop state part c₀ i₀ c i = (i ≤ length part) × Passing state part c i
+
+abbrev μ-loop : tie.MeasureT-loop
+μ-loop state part c₀ i₀ c i = length part - i
+
+loop-holds : tie.Need-loop-holds Inv-loop μ-loop
+loop-holds c = (search needs, pass-start)
+
+shared-slice-read-step : tie.Need-shared-slice-read-step Inv-loop μ-loop
+shared-slice-read-step c = search needs
+
+step-requires : tie.Need-step-requires Inv-loop μ-loop
+step-requires c κs = search needs
+
+add-i : tie.Need-add-i Inv-loop μ-loop
+add-i c = search needs
+
+loop-less : tie.Need-loop-less Inv-loop μ-loop
+loop-less c = search needs
+
+loop-again : tie.Need-loop-again Inv-loop μ-loop
+loop-again c = (search needs, pass-step _ (search needs) (c .before .before .before .loop .inv .1) (c .step .ensures))
+
+returns : tie.Need-returns Inv-loop μ-loop
+returns c = pass-end (search needs) (c .before .loop .inv .1)
+
+pub update-spec : {M : Type 1} → statement M
+update-spec =
+    tie.close
+    (tie.spec
+    Inv-loop
+    μ-loop
+    loop-holds
+    shared-slice-read-step
+    step-requires
+    add-i
+    loop-less
+    loop-again
+    returns)

@@ -1,0 +1,23 @@
+-- A checksum's state that has passed i bytes of a part: what is left, gone through from here, makes the whole.
+use mathlib.Core.Path.{_≡_, refl, ap, sym, _∙_}
+use mathlib.Core.List.{List, [], _∷_}
+use Prim.Native.Nat.{ℕ, suc, _+_, _≤_, _<_}
+use native.Mathlib.Numerals.{add-one}
+use lib.ListN.{length, drop, getD, drop-of-length-le}
+use lib.Seq.{drop-cons}
+use Rattle.rules.specs.Checksum.{crcByte, crcOver}
+
+pub record Passing (state : ℕ) (part : List ℕ) (c i : ℕ) : Type 0 where
+  pub rest : crcOver c (drop i part) ≡ crcOver state part
+
+module _ {state : ℕ} {part : List ℕ} where
+  pub pass-start : Passing state part state 0
+  pass-start = record { rest = refl }
+
+  pub pass-step : {c i : ℕ} (next : ℕ) → i < length part → Passing state part c i → next ≡ crcByte c (getD part i 0) → Passing state part next (i + 1)
+  unfolding crcOver
+  pass-step {c} {i} next h p e = record { rest = rw (add-one, e) (sym (ap (crcOver c) (drop-cons part i 0 h)) ∙ p .rest) }
+
+  pub pass-end : {c i : ℕ} → length part ≤ i → Passing state part c i → c ≡ crcOver state part
+  unfolding crcOver
+  pass-end {c} {i} h p = sym (ap (crcOver c) (drop-of-length-le part {i = i} h)) ∙ p .rest

@@ -1,0 +1,51 @@
+// CRC-32 by a table: an update of a state by a part of the bytes.
+ghost use mathlib.Core.Path.{_≡_};
+ghost use Prim.Native.Nat.{_%_};
+ghost use lib.Bits.{bitXor};
+ghost use Rattle.rules.specs.Checksum.{allOnes, crcBits, crcByte, crcOver};
+
+mod table;
+
+use table::TABLE;
+
+// The entry of the table for the low byte of x.
+fn entry(x: u32) -> u32
+    ensures { λ r. ⌜ r ≡ crcBits 8 (x % 256) ⌝ }
+{
+    TABLE[(x % 256) as usize]
+}
+
+// The state after one byte.
+fn step(state: u32, b: u8) -> u32
+    ensures { λ r. ⌜ r ≡ crcByte state b ⌝ }
+{
+    let x = (b as u32) ^ state;
+    entry(x) ^ (x / 256)
+}
+
+// The state after the bytes of a part.
+pub fn update(state: u32, part: &[u8]) -> u32
+    ensures { λ r. ⌜ r ≡ crcOver state (now (part .entry)) ⌝ }
+{
+    let mut c = state;
+    let mut i = 0;
+    while i < part.len() {
+        c = step(c, part[i]);
+        i += 1;
+    }
+    c
+}
+
+// The state to start with.
+pub fn start() -> u32
+    ensures { λ r. ⌜ r ≡ allOnes ⌝ }
+{
+    4294967295
+}
+
+// The checksum that a state stands for.
+pub fn finish(state: u32) -> u32
+    ensures { λ r. ⌜ r ≡ bitXor state allOnes ⌝ }
+{
+    state ^ 0xffff_ffff
+}

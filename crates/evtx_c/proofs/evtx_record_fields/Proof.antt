@@ -1,0 +1,26 @@
+-- Each case of the answer becomes the struct that it means.
+use mathlib.Core.Path.{ap}
+use Rattle.evtx_c.specs.Answers.{fieldsIn}
+use borrow.Author.Needs.{needs}
+use Rattle.evtx_c.proofs.evtx_record_fields.Statement.{statement}
+use Rattle.evtx_c.proofs.evtx_record_fields.Tie as tie
+
+record-fields-requires : tie.Need-record-fields-requires
+record-fields-requires c κs = search needs
+
+enum-known-record-number : tie.Need-enum-known-record-number
+enum-known-record-number c = search needs
+
+enum-known-number : tie.Need-enum-known-number
+enum-known-number c = search needs
+
+returns : tie.Need-returns
+returns c = ap fieldsIn (rw (c .before .record-number .given .1) at (c .before .before .before .record-fields .ensures))
+
+returns-2 : tie.Need-returns-2
+returns-2 c = ap fieldsIn (rw (c .before .number .given .1) at (c .before .before .before .record-fields .ensures))
+
+pub evtx-record-fields-spec : {M : Type 1} → statement M
+evtx-record-fields-spec =
+    tie.close
+    (tie.spec record-fields-requires enum-known-record-number enum-known-number returns returns-2)

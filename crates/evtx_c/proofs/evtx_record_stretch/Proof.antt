@@ -1,0 +1,26 @@
+-- Each case of the answer becomes the struct that it means.
+use mathlib.Core.Path.{ap}
+use Rattle.evtx_c.specs.Answers.{stretchIn}
+use borrow.Author.Needs.{needs}
+use Rattle.evtx_c.proofs.evtx_record_stretch.Statement.{statement}
+use Rattle.evtx_c.proofs.evtx_record_stretch.Tie as tie
+
+record-stretch-requires : tie.Need-record-stretch-requires
+record-stretch-requires c κs = search needs
+
+enum-known-offset : tie.Need-enum-known-offset
+enum-known-offset c = search needs
+
+enum-known-number : tie.Need-enum-known-number
+enum-known-number c = search needs
+
+returns : tie.Need-returns
+returns c = ap stretchIn (rw (c .before .offset .given .1) at (c .before .before .before .record-stretch .ensures))
+
+returns-2 : tie.Need-returns-2
+returns-2 c = ap stretchIn (rw (c .before .number .given .1) at (c .before .before .before .record-stretch .ensures))
+
+pub evtx-record-stretch-spec : {M : Type 1} → statement M
+evtx-record-stretch-spec =
+    tie.close
+    (tie.spec record-stretch-requires enum-known-offset enum-known-number returns returns-2)

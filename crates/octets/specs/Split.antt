@@ -1,0 +1,30 @@
+-- A number in m + n bytes is the number in the first m, and the number in the next n that many bytes higher: one law for every
+-- width, and for bytes that are not there.
+use mathlib.Core.Path.{_≡_, refl, ap, _∙_}
+use mathlib.Core.List.{List, [], _∷_}
+use Prim.Native.Nat.{ℕ, zero, suc, _+_, _*_, _^_, _≤_}
+use native.Mathlib.Nat.{suc-add, pow-suc, pow-zero}
+use native.Mathlib.Omega.{arith}
+use lib.ListN.{length, take, drop, getD, drop-of-length-le}
+use lib.Seq.{drop-drop, take-nil, drop-nil}
+use Rattle.rules.specs.Bytes.{number, part, numberAt}
+
+take-split : (m n : ℕ) (l : List ℕ) → number (take (m + n) l) ≡ number (take m l) + 256 ^ m * number (take n (drop m l))
+take-split zero n l = let z : 0 + n ≡ n = omega arith in rw (z, pow-zero) (omega arith)
+take-split (suc m) n [] = rw (take-nil n, take-nil (suc m + n)) (omega arith)
+take-split (suc m) n (x ∷ l) = rw (suc-add m n, pow-suc) (omega (arith, take-split m n l))
+
+-- the law
+pub number-split : (i m n : ℕ) (l : List ℕ) → numberAt i (m + n) l ≡ numberAt i m l + 256 ^ m * numberAt (i + m) n l
+number-split i m n l = rw (← drop-drop m i l) (take-split m n (drop i l))
+
+-- one byte
+pub number-one : (i : ℕ) (l : List ℕ) → numberAt i 1 l ≡ getD l i 0
+number-one zero [] = refl
+number-one zero (x ∷ l) = omega arith
+number-one (suc i) [] = refl
+number-one (suc i) (x ∷ l) = number-one i l
+
+-- nothing stands past the end
+pub number-past : (i n : ℕ) (l : List ℕ) → length l ≤ i → numberAt i n l ≡ 0
+number-past i n l h = rw (drop-of-length-le l {i = i} h, take-nil n)

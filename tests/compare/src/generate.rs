@@ -1,0 +1,131 @@
+//! Sound file headers, chunks and records, and bytes rich in beginnings of
+//! records. What a record's binary XML holds does not matter to these calls.
+
+use crate::random::Random;
+use second_reader::checksum::crc32;
+
+pub const CHUNK: usize = 65_536;
+pub const DATA: usize = 512;
+pub const HEADER: usize = 4_096;
+pub const MAGIC: [u8; 4] = [0x2a, 0x2a, 0, 0];
+
+pub fn put_u32(bytes: &mut [u8], at: usize, number: u32) {
+    bytes[at..at + 4].copy_from_slice(&number.to_le_bytes());
+}
+
+pub fn get_u32(bytes: &[u8], at: usize) -> u32 {
+    u32::from_le_bytes([bytes[at], bytes[at + 1], bytes[at + 2], bytes[at + 3]])
+}
+
+pub fn put(bytes: &mut [u8], at: usize, part: &[u8]) {
+    bytes[at..at + part.len()].copy_from_slice(part);
+}
+
+/// A record of `size` bytes, at least 8, with both copies of its size.
+pub fn record(random: &mut Random, size: usize) -> Vec<u8> {
+    let mut bytes = random.bytes(size);
+    put(&mut bytes, 0, &MAGIC);
+    put_u32(&mut bytes, 4, size as u32);
+    put_u32(&mut bytes, size - 4, size as u32);
+    bytes
+}
+
+/// Records of random sizes that fill `length` bytes up to some free space.
+fn records(random: &mut Random, length: usize) -> Vec<u8> {
+    let largest = random.pick(&[40, 200, 900, 20_000]);
+    let wanted = random.below(length + 1);
+    let mut bytes = Vec::new();
+    loop {
+        let size = random.between(28, largest);
+        if bytes.len() + size > length || bytes.len() >= wanted {
+            return bytes;
+        }
+        bytes.extend(record(random, size));
+    }
+}
+
+/// Where the records of a chunk begin, as its sizes say, for a chunk in which
+/// nothing was damaged yet.
+pub fn record_starts(chunk: &[u8]) -> Vec<usize> {
+    let free = get_u32(chunk, 48) as usize;
+    let mut starts = Vec::new();
+    let mut at = DATA;
+    while at < free {
+        starts.push(at);
+        at += get_u32(chunk, at + 4) as usize;
+    }
+    starts
+}
+
+/// Both checksums of a chunk, for the free-space offset it states; one that
+/// leaves the chunk gets the sum of all data.
+pub fn seal_chunk(chunk: &mut [u8]) {
+    let free = (get_u32(chunk, 48) as usize).clamp(DATA, CHUNK);
+    let data_sum = crc32(&[&chunk[DATA..free]]);
+    put_u32(chunk, 52, data_sum);
+    seal_chunk_header(chunk);
+}
+
+pub fn seal_chunk_header(chunk: &mut [u8]) {
+    let header_sum = crc32(&[&chunk[..120], &chunk[128..512]]);
+    put_u32(chunk, 124, header_sum);
+}
+
+pub fn seal_file_header(header: &mut [u8]) {
+    let sum = crc32(&[&header[..120]]);
+    put_u32(header, 0x7c, sum);
+}
+
+/// A chunk with the given data, sealed.
+pub fn chunk_of(random: &mut Random, data: &[u8]) -> Vec<u8> {
+    let mut chunk = vec![0; CHUNK];
+    put(&mut chunk, 0, b"ElfChnk\0");
+    put(&mut chunk, 8, &random.bytes(32));
+    put_u32(&mut chunk, 40, 128);
+    put_u32(&mut chunk, 48, (DATA + data.len()) as u32);
+    put(&mut chunk, 128, &random.bytes(384));
+    put(&mut chunk, DATA, data);
+    seal_chunk(&mut chunk);
+    chunk
+}
+
+pub fn sound_chunk(random: &mut Random) -> Vec<u8> {
+    let data = records(random, CHUNK - DATA);
+    chunk_of(random, &data)
+}
+
+/// A sound chunk with little data, whose checksums cost little.
+pub fn small_chunk(random: &mut Random) -> Vec<u8> {
+    let data = record(random, 60);
+    chunk_of(random, &data)
+}
+
+pub fn sound_file_header(random: &mut Random) -> Vec<u8> {
+    let mut header = vec![0; HEADER];
+    put(&mut header, 0, b"ElfFile\0");
+    put(&mut header, 8, &random.bytes(24));
+    put_u32(&mut header, 0x20, 128);
+    put(&mut header, 0x24, &[1, 0, 3, 0, 0, 0x10]);
+    put(&mut header, 0x2a, &random.bytes(2));
+    put(&mut header, 0x78, &random.bytes(4));
+    seal_file_header(&mut header);
+    header
+}
+
+/// Bytes made of magics, small sizes and zeros, so that records, overlapping
+/// ones and near misses stand everywhere.
+pub fn dense_bytes(random: &mut Random, length: usize) -> Vec<u8> {
+    let mut bytes = Vec::new();
+    while bytes.len() < length {
+        let size = random.pick(&[27u32, 28, 28, 29, 32, 36, 40, 60, 256]);
+        let whole_word = random.pick(&[size, size, 0, 0x2a2a, 0x2a]);
+        match random.below(8) {
+            0..=2 => bytes.extend([&MAGIC[..], &size.to_le_bytes()].concat()),
+            3..=5 => bytes.extend(whole_word.to_le_bytes()),
+            6 => bytes.extend(record(random, size as usize)),
+            _ => bytes.push(random.pick(&[0, 0x2a, 28])),
+        }
+    }
+    bytes.truncate(length);
+    bytes
+}

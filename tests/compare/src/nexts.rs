@@ -1,0 +1,27 @@
+//! Compares the calls for the next record in a chunk and in loose bytes.
+
+use crate::first::{self, Found};
+use crate::offsets::worth_asking;
+use crate::trial::{Outcome, Trial};
+use second_reader::record;
+
+fn answer(found: Result<u64, u32>) -> Found {
+    match found {
+        Ok(offset) => Found { number: 0, offset },
+        Err(number) => Found { number, offset: 0 },
+    }
+}
+
+pub fn compare(trial: &mut Trial) -> Outcome {
+    for from in worth_asking(trial.case) {
+        let asked = format!("from {from}");
+        let bytes = &trial.case.bytes;
+        let first = first::next_in_chunk(&mut trial.lent, from);
+        let second = answer(record::next_in_chunk(bytes, from));
+        trial.settle("evtx_next_in_chunk", &asked, first, second)?;
+        let first = first::next_in_bytes(&mut trial.lent, from);
+        let second = answer(record::next_in_bytes(bytes, from));
+        trial.settle("evtx_next_in_bytes", &asked, first, second)?;
+    }
+    Ok(())
+}

@@ -1,0 +1,59 @@
+//! Compares the searches of a chunk and of loose bytes, with rooms around the
+//! number of records.
+
+use crate::first::{self, Answer};
+use crate::lent::Lent;
+use crate::trial::{Difference, Outcome, Trial};
+use second_reader::record;
+use std::collections::BTreeSet;
+
+type First = fn(&mut Lent<u8>, &mut Lent<u32>) -> Answer;
+type Second = fn(&[u8], usize) -> Result<Vec<u32>, u32>;
+
+pub fn compare(trial: &mut Trial) -> Outcome {
+    search(trial, "evtx_search_chunk", first::search_chunk, record::search_chunk)?;
+    search(trial, "evtx_search_bytes", first::search_bytes, record::search_bytes)
+}
+
+fn search(trial: &mut Trial, call: &'static str, first: First, second: Second) -> Outcome {
+    let whole = second(&trial.case.bytes, usize::MAX);
+    let count = whole.map_or(0, |list| list.len());
+    let rooms = [0, count.saturating_sub(1), count, count + 1, count + 300];
+    for room in BTreeSet::from(rooms) {
+        with_room(trial, call, first, second, room)?;
+    }
+    Ok(())
+}
+
+fn with_room(
+    trial: &mut Trial,
+    call: &'static str,
+    first: First,
+    second: Second,
+    room: usize,
+) -> Outcome {
+    let asked = format!("room {room}");
+    let mut list = Lent::list(room);
+    let first_answer = first(&mut trial.lent, &mut list);
+    let expected = second(&trial.case.bytes, room);
+    let (number, offsets) = match &expected {
+        Ok(offsets) => (0, offsets.as_slice()),
+        Err(number) => (*number, &[][..]),
+    };
+    let second_answer = Answer { number, length: offsets.len() as u64 };
+    trial.settle(call, &asked, first_answer, second_answer)?;
+    if !list.holds_only(offsets) {
+        return Err(Difference { call, asked, found: list_difference(&list, offsets) });
+    }
+    Ok(())
+}
+
+fn list_difference(list: &Lent<u32>, offsets: &[u32]) -> String {
+    let mut pairs = list.now().iter().zip(offsets).enumerate();
+    match pairs.find(|(_, (first, second))| first != second) {
+        Some((index, (first, second))) => {
+            format!("entry {index}: first reader {first}, second reader {second}")
+        }
+        None => "the first reader changed entries beyond its answer, or the guards".to_string(),
+    }
+}

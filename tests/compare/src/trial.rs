@@ -1,0 +1,97 @@
+//! One input on trial: the calls of both readers are settled here, answer
+//! against answer, with the lent memory checked after each call.
+
+use crate::first::{Answer, Fields, Found, Stretch};
+use crate::lent::Lent;
+use crate::tally::Tally;
+use std::fmt::{Debug, Display};
+
+/// An input for all calls, and how it came about.
+pub struct Case {
+    pub kind: &'static str,
+    pub seed: u64,
+    /// Which of the inputs that this kind makes of this seed.
+    pub part: usize,
+    pub bytes: Vec<u8>,
+    /// What stands in memory after the lent bytes.
+    pub behind: Vec<u8>,
+    pub calls: Calls,
+}
+
+/// Which calls an input is for.
+#[derive(Clone, Copy, PartialEq, Eq)]
+pub enum Calls {
+    All,
+    /// The header checks only, for inputs that differ in header bytes alone.
+    Checks,
+}
+
+/// The first thing in which the readers differ.
+pub struct Difference {
+    pub call: &'static str,
+    pub asked: String,
+    pub found: String,
+}
+
+pub type Outcome = Result<(), Difference>;
+
+/// An answer of the C interface.
+pub trait Numbered: Copy + Debug + PartialEq {
+    fn number(&self) -> u32;
+}
+
+impl Numbered for Answer {
+    fn number(&self) -> u32 {
+        self.number
+    }
+}
+
+impl Numbered for Found {
+    fn number(&self) -> u32 {
+        self.number
+    }
+}
+
+impl Numbered for Stretch {
+    fn number(&self) -> u32 {
+        self.number
+    }
+}
+
+impl Numbered for Fields {
+    fn number(&self) -> u32 {
+        self.number
+    }
+}
+
+pub struct Trial<'a> {
+    pub case: &'a Case,
+    pub lent: Lent<u8>,
+    tally: &'a mut Tally,
+}
+
+impl<'a> Trial<'a> {
+    pub fn new(case: &'a Case, tally: &'a mut Tally) -> Trial<'a> {
+        let shift = (case.seed % 8) as usize;
+        Trial { case, lent: Lent::input(&case.bytes, &case.behind, shift), tally }
+    }
+
+    /// Both answers are equal, and the input is unchanged.
+    pub fn settle<A: Numbered>(
+        &mut self,
+        call: &'static str,
+        asked: impl Display,
+        first: A,
+        second: A,
+    ) -> Outcome {
+        self.tally.note(call, second.number());
+        let differ = |found: String| Err(Difference { call, asked: asked.to_string(), found });
+        if first != second {
+            return differ(format!("first reader:  {first:?}\nsecond reader: {second:?}"));
+        }
+        if !self.lent.holds_only(&[]) {
+            return differ("the first reader changed its input or the guards".to_string());
+        }
+        Ok(())
+    }
+}

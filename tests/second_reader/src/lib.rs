@@ -1,0 +1,14 @@
+//! The second reader of Windows XML event logs: the yardstick of the
+//! comparison tests. It is written from document 01 and the published layouts
+//! alone and shares nothing with the first reader.
+#![forbid(unsafe_code)]
+
+pub mod binxml;
+pub mod calendar;
+pub mod checksum;
+pub mod header;
+pub mod listing;
+pub mod numbers;
+pub mod record;
+pub mod text;
+pub mod value;
