@@ -1,0 +1,166 @@
+// Numbers as text: decimal and hexadecimal, once over the base, the count of digits and the width in bytes.
+ghost use mathlib.Core.Path.{_≡_};
+ghost use mathlib.Core.List.{[]};
+ghost use Prim.Native.Nat.{_+_, _^_, _≤_, _<_};
+ghost use lib.ListN.{length, take};
+ghost use Rattle.output.specs.Output.{Wrote};
+ghost use Rattle.rules.specs.Bytes.{number};
+ghost use Rattle.rules.specs.Numerals.{digits, decimal, shortHex, lastDigits, padded, upperHex, unsigned, signed, allHex, hexPairs};
+ghost use Rattle.numeral.specs.Digits.{cased};
+
+fn wide(b: u8) -> u64
+    ensures { λ r. ⌜ (r ≡ b) × (r < 256) ⌝ }
+{
+    b as u64
+}
+
+// A digit below 16, in upper case if asked.
+fn digit(upper: bool, d: u64) -> u8
+    requires { ⌜ d < 16 ⌝ }
+    ensures { λ r. ⌜ r ≡ cased upper d ⌝ }
+{
+    let b = d as u8;
+    if b < 10 {
+        return 48 + b;
+    }
+    if upper { 55 + b } else { 87 + b }
+}
+
+// As few digits as there can be.
+fn put_digits(out: &mut [u8], at: usize, base: u64, n: u64) -> usize
+    requires { ⌜ (2 ≤ base) × (base ≤ 16) ⌝ }
+    ensures { λ r. ⌜ Wrote (now (out .entry)) at (digits base n n []) (now (out .exit)) r ⌝ }
+{
+    if n < base {
+        return output::put(out, at, digit(false, n));
+    }
+    let place = put_digits(out, at, base, n / base);
+    output::put(out, place, digit(false, n % base))
+}
+
+// The last k digits.
+fn put_last(out: &mut [u8], at: usize, upper: bool, base: u64, k: u8, n: u64) -> usize
+    requires { ⌜ (2 ≤ base) × (base ≤ 16) ⌝ }
+    ensures { λ r. ⌜ Wrote (now (out .entry)) at (lastDigits (cased upper) base k n) (now (out .exit)) r ⌝ }
+{
+    if k == 0 {
+        return at;
+    }
+    let place = put_last(out, at, upper, base, k - 1, n / base);
+    output::put(out, place, digit(upper, n % base))
+}
+
+pub fn put_decimal(out: &mut [u8], at: usize, n: u64) -> usize
+    ensures { λ r. ⌜ Wrote (now (out .entry)) at (decimal n) (now (out .exit)) r ⌝ }
+{
+    put_digits(out, at, 10, n)
+}
+
+// `0x` and shortest lower-case hex.
+pub fn put_short_hex(out: &mut [u8], at: usize, n: u64) -> usize
+    ensures { λ r. ⌜ Wrote (now (out .entry)) at (shortHex n) (now (out .exit)) r ⌝ }
+{
+    let place = output::put_text(out, at, b"0x");
+    put_digits(out, place, 16, n)
+}
+
+// k decimal digits.
+pub fn put_padded(out: &mut [u8], at: usize, k: u8, n: u64) -> usize
+    ensures { λ r. ⌜ Wrote (now (out .entry)) at (padded k n) (now (out .exit)) r ⌝ }
+{
+    put_last(out, at, false, 10, k, n)
+}
+
+// k upper-case hex digits.
+pub fn put_upper_hex(out: &mut [u8], at: usize, k: u8, n: u64) -> usize
+    ensures { λ r. ⌜ Wrote (now (out .entry)) at (upperHex k n) (now (out .exit)) r ⌝ }
+{
+    put_last(out, at, true, 16, k, n)
+}
+
+// The width that a number of these bytes is read with: all of them, up to 8.
+fn width(src: &[u8]) -> u8
+    ensures { λ r. ⌜ r ≡ length (take 8 (now (src .entry))) ⌝ }
+{
+    if src.len() < 8 { src.len() as u8 } else { 8 }
+}
+
+// The number that the bytes hold, little-endian; of more than 8 bytes, the number in the first 8.
+pub fn number_of(src: &[u8]) -> u64
+    ensures { λ r. ⌜ r ≡ number (take 8 (now (src .entry))) ⌝ }
+{
+    let mut v: u64 = 0;
+    let mut i = width(src) as usize;
+    while 0 < i {
+        i -= 1;
+        v = wide(src[i]) + v * 256;
+    }
+    v
+}
+
+// The largest number that fits w bytes.
+fn largest(w: u8) -> u64
+    requires { ⌜ w ≤ 8 ⌝ }
+    ensures { λ r. ⌜ r + 1 ≡ 256 ^ w ⌝ }
+{
+    let mut top: u64 = 0;
+    let mut i: u8 = 0;
+    while i < w {
+        top = top * 256 + 255;
+        i += 1;
+    }
+    top
+}
+
+// An unsigned integer of up to 8 bytes.
+pub fn put_unsigned(out: &mut [u8], at: usize, src: &[u8]) -> usize
+    ensures { λ r. ⌜ Wrote (now (out .entry)) at (unsigned (take 8 (now (src .entry)))) (now (out .exit)) r ⌝ }
+{
+    put_decimal(out, at, number_of(src))
+}
+
+// A signed integer of up to 8 bytes: the top bit of its width is the sign.
+pub fn put_signed(out: &mut [u8], at: usize, src: &[u8]) -> usize
+    ensures { λ r. ⌜ Wrote (now (out .entry)) at (signed (take 8 (now (src .entry)))) (now (out .exit)) r ⌝ }
+{
+    let n = number_of(src);
+    let top = largest(width(src));
+    if n <= top / 2 {
+        return put_decimal(out, at, n);
+    }
+    let place = output::put(out, at, b'-');
+    put_decimal(out, place, top - n + 1)
+}
+
+// `0x` and all hex digits of up to 8 bytes.
+pub fn put_all_hex(out: &mut [u8], at: usize, src: &[u8]) -> usize
+    ensures { λ r. ⌜ Wrote (now (out .entry)) at (allHex (take 8 (now (src .entry)))) (now (out .exit)) r ⌝ }
+{
+    let place = output::put_text(out, at, b"0x");
+    put_last(out, place, false, 16, 2 * width(src), number_of(src))
+}
+
+// A byte as two upper-case hex digits.
+fn put_pair(out: &mut [u8], at: usize, b: u8) -> usize
+    ensures { λ r. ⌜ Wrote (now (out .entry)) at (upperHex 2 b) (now (out .exit)) r ⌝ }
+{
+    let n = wide(b);
+    let place = output::put(out, at, digit(true, n / 16));
+    output::put(out, place, digit(true, n % 16))
+}
+
+// Each byte as a pair of upper-case hex digits.
+pub fn put_pairs(out: &mut [u8], at: usize, src: &[u8]) -> usize
+    ensures { λ r. ⌜ Wrote (now (out .entry)) at (hexPairs (now (src .entry))) (now (out .exit)) r ⌝ }
+{
+    if out.len() <= at {
+        return output::skip(at, 2 * src.len());
+    }
+    let mut place = at;
+    let mut i = 0;
+    while i < src.len() {
+        place = put_pair(out, place, src[i]);
+        i += 1;
+    }
+    place
+}
