@@ -9,8 +9,8 @@ use native.Mathlib.Numerals.{add-one}
 use native.Mathlib.Omega.{arith}
 use borrow.Author.Tests.{lt-ltb, le-ltb}
 use lib.Dec.{lit<}
-use lib.ListN.{length, take, drop, getD, length-take, length-drop}
-use lib.Seq.{drop-cons, drop-length, getD-take, getD-drop}
+use lib.ListN.{length, take, drop, getD, length-take, drop-of-length-le}
+use lib.Seq.{take-nil, getD-drop}
 use mir.Syntax.{w8}
 use mir.Val.{Fits}
 use Rattle.rules.specs.Bytes.{if_then_else_, number, Text, ascii}
@@ -34,24 +34,32 @@ bytes-take (suc n) (x ∷ b) h (suc i) = bytes-take n b (λ j. h (suc j)) i
 pub width-most : (s : List ℕ) → length (take 8 s) ≤ 8
 width-most s = rw length-take (omega arith)
 
-number-drop : (b : List ℕ) (i : ℕ) → i < length b → number (drop i b) ≡ getD b i 0 + 256 * number (drop (i + 1) b)
-number-drop b i h = rw (drop-cons b i 0, add-one i)
+-- the number in bytes at an offset, from its first byte on; bytes that are not there count as 0
+number-front : (n p : ℕ) (s : List ℕ) → number (take (suc n) (drop p s)) ≡ getD s p 0 + 256 * number (take n (drop (suc p) s))
+number-front n zero [] = rw (take-nil n)
+number-front n zero (x ∷ s) = refl
+number-front n (suc p) [] = rw (take-nil n)
+number-front n (suc p) (x ∷ s) = number-front n p s
 
--- reading the bytes from the last to the first: v is what those from i on hold
-module _ (s : List ℕ) (bytes : Bytes s) (i v : ℕ) (some : 0 < i) (inside : i ≤ length (take 8 s)) (is : v ≡ number (drop i (take 8 s))) where
+pub number-none : (n p : ℕ) (s : List ℕ) → length s ≤ p → number (take n (drop p s)) ≡ 0
+number-none n p s h = rw (drop-of-length-le s h, take-nil n)
+
+-- reading the w bytes at p from the last to the first: v is what those from i on hold
+module _ (s : List ℕ) (bytes : Bytes s) (p w i v : ℕ) (most : w ≤ 8) (some : 0 < i) (inside : i ≤ w) (is : v ≡ number (take (w - i) (drop (p + i) s))) where
   -- one byte more
-  pub number-step : getD s (i - 1) 0 + v * 256 ≡ number (drop (i - 1) (take 8 s))
+  pub number-step : getD s (p + (i - 1)) 0 + v * 256 ≡ number (take (w - (i - 1)) (drop (p + (i - 1)) s))
   number-step =
-      let m = width-most s in
-      let z : i - 1 + 1 ≡ i = omega arith in
-      let e : getD (take 8 s) (i - 1) 0 ≡ getD s (i - 1) 0 = getD-take 8 s (i - 1) 0 (omega arith) in
-      rw (number-drop (take 8 s) (i - 1) (omega arith), z, ← is, e) (omega arith)
+      let a : w - (i - 1) ≡ suc (w - i) = omega arith in
+      let b : suc (p + (i - 1)) ≡ p + i = omega arith in
+      let f = number-front (w - i) (p + (i - 1)) s in
+      rw (a, is) (omega (arith, ap (λ (q : ℕ). number (take (w - i) (drop q s))) b))
 
-  pub number-fits : getD s (i - 1) 0 + v * 256 < 2 ^ 64
+  pub number-fits : getD s (p + (i - 1)) 0 + v * 256 < 2 ^ 64
   number-fits =
-      let m = width-most s in
-      let p : 256 ^ length (drop (i - 1) (take 8 s)) ≤ 256 ^ 8 = pow-le-pow-right {n = 256} (lit< tt) {j = 8} (rw length-drop (omega arith)) in
-      let b = number-below (drop (i - 1) (take 8 s)) (λ j. rw getD-drop (bytes-take 8 s bytes (i - 1 + j))) in
+      let part = take (w - (i - 1)) (drop (p + (i - 1)) s) in
+      let l : length part ≤ 8 = rw length-take (omega arith) in
+      let q : 256 ^ length part ≤ 256 ^ 8 = pow-le-pow-right {n = 256} (lit< tt) {j = 8} l in
+      let b = number-below part (bytes-take (w - (i - 1)) (drop (p + (i - 1)) s) (λ j. rw getD-drop (bytes (p + (i - 1) + j)))) in
       rw number-step (omega arith)
 
 pub in-width : (s : List ℕ) → Bytes s → (n top : ℕ) → n ≡ number (take 8 s) → top + 1 ≡ 256 ^ length (take 8 s) → n ≤ top
