@@ -1,0 +1,46 @@
+-- `put_clock` meets its contract: its five parts in a row.
+use Prim.Native.Nat.{_<_, _^_}
+use denote.Ref.{now}
+use lib.ListN.{length}
+use Rattle.output.specs.Output.{wrote-more}
+use Rattle.rules.specs.Dates.{clockText}
+use native.Mathlib.Omega.{arith}
+use borrow.Author.Needs.{needs}
+use Rattle.calendar.proofs.put_clock.Statement.{statement}
+use Rattle.calendar.proofs.put_clock.Tie as tie
+
+put-padded-requires : tie.Need-put-padded-requires
+put-padded-requires c κs = search needs
+
+put-requires : tie.Need-put-requires
+put-requires c κs = search needs
+
+put-padded-requires-2 : tie.Need-put-padded-requires-2
+put-padded-requires-2 c κs = search needs
+
+put-requires-2 : tie.Need-put-requires-2
+put-requires-2 c κs = search needs
+
+put-padded-requires-3 : tie.Need-put-padded-requires-3
+put-padded-requires-3 c κs = search needs
+
+same-length : tie.Need-same-length
+same-length c = search needs
+
+returns : tie.Need-returns
+unfolding clockText
+returns c =
+    let room : length (now (c .before .before .before .before .before .before .before .before .before .before .before .before .before .before .before .before .before .before .before .before .before .args .out)) < 2 ^ 63 = omega (arith, c .before .before .before .before .before .before .before .before .before .before .before .before .before .before .before .before .before .before .before .before .before .good) in
+    wrote-more room (wrote-more room (wrote-more room (wrote-more room (c .before .before .before .before .before .before .before .before .before .before .before .before .before .before .before .before .before .before .put-padded .ensures) (c .before .before .before .before .before .before .before .before .before .before .before .before .before .before .put .ensures)) (c .before .before .before .before .before .before .before .before .before .before .put-padded2 .ensures)) (c .before .before .before .before .before .before .put2 .ensures)) (c .before .before .put-padded3 .ensures)
+
+pub put-clock-spec : {M : Type 1} → statement M
+put-clock-spec =
+    tie.close
+    (tie.spec
+    put-padded-requires
+    put-requires
+    put-padded-requires-2
+    put-requires-2
+    put-padded-requires-3
+    same-length
+    returns)
