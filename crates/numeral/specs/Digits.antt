@@ -17,10 +17,6 @@ abbrev pub cased : Bool → ℕ → ℕ
 cased true = upper
 cased false = lower
 
-pub cased-low : (t : Bool) (d : ℕ) → d < 10 → cased t d ≡ 48 + d
-cased-low true d h = rw (lt-ltb d 10 h)
-cased-low false d h = rw (lt-ltb d 10 h)
-
 few : (base k n : ℕ) (after : Text) → n < base → digits base (suc k) n after ≡ lower n ∷ after
 unfolding digits
 few base k n after h = rw (digits, lt-ltb n base h)

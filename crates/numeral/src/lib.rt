@@ -4,8 +4,9 @@ ghost use mathlib.Core.List.{[]};
 ghost use Prim.Native.Nat.{_+_, _^_, _≤_, _<_, min};
 ghost use lib.ListN.{length, take, getD};
 ghost use Rattle.output.specs.Output.{Wrote};
+ghost use Rattle.output.specs.Tables.{tabled};
 ghost use Rattle.rules.specs.Bytes.{number, numberAt};
-ghost use Rattle.rules.specs.Numerals.{digits, decimal, shortHex, lastDigits, padded, upperHex, unsigned, signed, allHex, hexPairs};
+ghost use Rattle.rules.specs.Numerals.{upper, digits, decimal, shortHex, lastDigits, padded, upperHex, unsigned, signed, allHex, hexPairs};
 ghost use Rattle.numeral.specs.Digits.{cased};
 
 fn wide(b: u8) -> u64
@@ -14,16 +15,19 @@ fn wide(b: u8) -> u64
     b as u64
 }
 
+// The hex digits in lower case, and in upper case.
+const DIGITS: [[u8; 16]; 2] = [*b"0123456789abcdef", *b"0123456789ABCDEF"];
+
 // A digit below 16, in upper case if asked.
 fn digit(upper: bool, d: u64) -> u8
     requires { ⌜ d < 16 ⌝ }
     ensures { λ r. ⌜ r ≡ cased upper d ⌝ }
 {
-    let b = d as u8;
-    if b < 10 {
-        return 48 + b;
+    let i = d as usize;
+    if upper {
+        return DIGITS[1][i];
     }
-    if upper { 55 + b } else { 87 + b }
+    DIGITS[0][i]
 }
 
 // As few digits as there can be.
@@ -164,13 +168,14 @@ pub fn put_all_hex(out: &mut [u8], at: usize, src: &[u8]) -> usize
     put_last(out, place, false, 16, 2 * width(src), number_of(src))
 }
 
-// A byte as two upper-case hex digits.
-fn put_pair(out: &mut [u8], at: usize, b: u8) -> usize
+// A byte as two hex digits, out of the table of upper-case ones.
+fn put_pair(out: &mut [u8], at: usize, table: &[u8; 16], b: u8) -> usize
+    requires { ⌜ now table ≡ tabled upper 16 ⌝ }
     ensures { λ r. ⌜ Wrote (now (out .entry)) at (upperHex 2 b) (now (out .exit)) r ⌝ }
 {
-    let n = wide(b);
-    let place = output::put(out, at, digit(true, n / 16));
-    output::put(out, place, digit(true, n % 16))
+    let n = wide(b) as usize;
+    let place = output::put(out, at, table[n / 16]);
+    output::put(out, place, table[n % 16])
 }
 
 // Each byte as a pair of upper-case hex digits.
@@ -180,10 +185,11 @@ pub fn put_pairs(out: &mut [u8], at: usize, src: &[u8]) -> usize
     if out.len() <= at {
         return output::skip(at, 2 * src.len());
     }
+    let table = DIGITS[1];
     let mut place = at;
     let mut i = 0;
     while i < src.len() {
-        place = put_pair(out, place, src[i]);
+        place = put_pair(out, place, &table, src[i]);
         i += 1;
     }
     place

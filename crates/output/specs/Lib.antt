@@ -1,3 +1,3 @@
 pub mod Output
 pub mod Loops
-pub mod Tests
+pub mod Tables

@@ -9,7 +9,7 @@ ghost use Rattle.rules.specs.Bytes.{if_then_else_};
 ghost use Rattle.rules.specs.Names.{units};
 ghost use Rattle.rules.specs.Strings.{unlessHigh, completed, leftOver, utf8, isXml, shown, allShown, stringText};
 ghost use Rattle.utf16.specs.Carry.{carryOf, Carried};
-ghost use Rattle.utf16.specs.Shown.{PlainlyIf};
+ghost use Rattle.utf16.specs.Shown.{PlainlyIf, plainTable};
 
 fn wide(b: u8) -> u32
     ensures { λ r. ⌜ (r ≡ b) × (r < 256) ⌝ }
@@ -180,7 +180,8 @@ fn put_unit(out: &mut [u8], at: usize, carry: u32, u: u32) -> usize
 }
 
 // Whether the unit, with nothing carried over, is written as itself. Most units of a log are.
-fn plain(carry: u32, u: u32) -> bool
+fn plain(table: &[u8; 128], carry: u32, u: u32) -> bool
+    requires { ⌜ now table ≡ plainTable ⌝ }
     ensures { λ r. ⌜ PlainlyIf r carry u ⌝ }
 {
     if carry != 0 {
@@ -189,41 +190,23 @@ fn plain(carry: u32, u: u32) -> bool
     if 127 < u {
         return false;
     }
-    if 62 < u {
-        return true;
-    }
-    if u < 32 {
-        return false;
-    }
-    if u == 34 {
-        return false;
-    }
-    if u == 38 {
-        return false;
-    }
-    if u == 39 {
-        return false;
-    }
-    if u == 60 {
-        return false;
-    }
-    if u == 62 {
-        return false;
-    }
-    true
+    table[u as usize] == b'1'
 }
 
 // The string in the bytes of src; of an odd count of bytes the last is not read.
 pub fn put_string(out: &mut [u8], at: usize, src: &[u8]) -> usize
     ensures { λ r. ⌜ Wrote (now (out .entry)) at (stringText (units (now (src .entry)))) (now (out .exit)) r ⌝ }
 {
+    // `1` for each character of ASCII that is written as itself
+    let table =
+        b"00000000000000000000000000000000110111001111111111111111111101011111111111111111111111111111111111111111111111111111111111111111";
     let mut place = at;
     let mut carry: u32 = 0;
     let mut i = 0;
     while i + 1 < src.len() {
         let u = unit(src, i);
         i += 2;
-        if plain(carry, u) {
+        if plain(table, carry, u) {
             place = output::put(out, place, byte(u));
             continue;
         }

@@ -12,10 +12,10 @@ use Rattle.numeral.proofs.put_pairs.Statement.{statement}
 use Rattle.numeral.proofs.put_pairs.Tie as tie
 
 abbrev Inv-loop : tie.InvT-loop
-Inv-loop out₀ at src place₀ i₀ out place i = (i ≤ length src) × Left (hexPairs src) out₀ at (hexPairs (drop i src)) out place
+Inv-loop out₀ at src table place₀ i₀ out place i = (i ≤ length src) × Left (hexPairs src) out₀ at (hexPairs (drop i src)) out place
 
 abbrev μ-loop : tie.MeasureT-loop
-μ-loop out₀ at src place₀ i₀ out place i = length src - i
+μ-loop out₀ at src table place₀ i₀ out place i = length src - i
 
 mul-skip : tie.Need-mul-skip Inv-loop μ-loop
 mul-skip c = search needs
@@ -27,6 +27,9 @@ returns : tie.Need-returns Inv-loop μ-loop
 returns c =
     let s = now (c .before .before .before .before .args .src) in
     wrote-past _ _ (hexPairs s) _ (search needs) (c .skip .ensures ∙ ap (adv (c .before .before .before .before .args .at)) (sym (pairs-length s)))
+
+array-copy-out-table : tie.Need-array-copy-out-table Inv-loop μ-loop
+array-copy-out-table c = search needs
 
 loop-holds : tie.Need-loop-holds Inv-loop μ-loop
 loop-holds c = (search needs, left-start (search needs))
@@ -46,14 +49,14 @@ loop-less c = search needs
 loop-again : tie.Need-loop-again Inv-loop μ-loop
 unfolding hexPairs
 loop-again c =
-    (search needs, each-step hexPairs (now (c .before .before .before .before .before .before .before .before .before .before .args .src)) (upperHex 2) (λ b bs. refl) (c .before .before .before .before .before .before .loop .i) (search needs) (c .before .before .before .before .before .before .loop .inv .1) (c .before .before .put-pair .ensures))
+    (search needs, each-step hexPairs (now (c .before .before .before .before .before .before .before .before .before .before .before .before .args .src)) (upperHex 2) (λ b bs. refl) (c .before .before .before .before .before .before .before .loop .i) (search needs) (c .before .before .before .before .before .before .before .loop .inv .1) (c .before .before .put-pair .ensures))
 
 same-length : tie.Need-same-length Inv-loop μ-loop
 same-length c = search needs
 
 returns-2 : tie.Need-returns-2 Inv-loop μ-loop
 unfolding hexPairs
-returns-2 c = each-end hexPairs (now (c .before .before .before .before .before .args .src)) refl (c .before .loop .i) (search needs) (c .before .loop .inv .1)
+returns-2 c = each-end hexPairs (now (c .before .before .before .before .before .before .args .src)) refl (c .before .loop .i) (search needs) (c .before .loop .inv .1)
 
 pub put-pairs-spec : {M : Type 1} → statement M
 put-pairs-spec =
@@ -64,6 +67,7 @@ put-pairs-spec =
     mul-skip
     skip-requires
     returns
+    array-copy-out-table
     loop-holds
     shared-slice-read-put-pair
     put-pair-requires

@@ -14,13 +14,13 @@ use Rattle.utf16.proofs.put_string.Statement.{statement}
 use Rattle.utf16.proofs.put_string.Tie as tie
 
 abbrev Inv-loop : tie.InvT-loop
-Inv-loop out₀ at src place₀ carry₀ i₀ out place carry i = (i ≤ length src) × (carry ≤ 1024) × Left (stringText (units src)) out₀ at (textFrom carry (units (drop i src))) out place
+Inv-loop out₀ at src table place₀ carry₀ i₀ out place carry i = (i ≤ length src) × (carry ≤ 1024) × Left (stringText (units src)) out₀ at (textFrom carry (units (drop i src))) out place
 
 abbrev μ-loop : tie.MeasureT-loop
-μ-loop out₀ at src place₀ carry₀ i₀ out place carry i = length src - i
+μ-loop out₀ at src table place₀ carry₀ i₀ out place carry i = length src - i
 
 loop-holds : tie.Need-loop-holds Inv-loop μ-loop
-loop-holds c = (search needs, search needs, rw (← (text-start (units (now (c .before .before .args .src))))) (left-start (search needs)))
+loop-holds c = (search needs, search needs, rw (← (text-start (units (now (c .before .before .before .args .src))))) (left-start (search needs)))
 
 add-loop : tie.Need-add-loop Inv-loop μ-loop
 add-loop c = search needs
@@ -46,7 +46,7 @@ loop-less c = search needs
 loop-again : tie.Need-loop-again Inv-loop μ-loop
 loop-again c =
     let p = rw (c .before .before .before .before .before .if1 .taken) at (c .before .before .before .before .before .before .plain .ensures) in
-    (search needs, search needs, unit-step (now (c .before .before .before .before .before .before .before .before .before .before .before .before .args .src)) (c .before .before .before .before .before .before .before .before .before .loop .i) (c .before .before .before .before .before .before .before .unit .result) (c .before .before .before .before .before .before .before .before .before .loop .carry) (c .before .before .before .before .before .before .before .before .before .loop .carry) (search needs) (c .before .before .before .before .before .before .before .unit .ensures .0) (p .next) (c .before .before .before .before .before .before .before .before .before .loop .inv .2) (rw (p .itself, ← (c .before .before .before .byte .ensures)) (c .before .before .put .ensures)))
+    (search needs, search needs, unit-step (now (c .before .before .before .before .before .before .before .before .before .before .before .before .before .args .src)) (c .before .before .before .before .before .before .before .before .before .loop .i) (c .before .before .before .before .before .before .before .unit .result) (c .before .before .before .before .before .before .before .before .before .loop .carry) (c .before .before .before .before .before .before .before .before .before .loop .carry) (search needs) (c .before .before .before .before .before .before .before .unit .ensures .0) (p .next) (c .before .before .before .before .before .before .before .before .before .loop .inv .2) (rw (p .itself, ← (c .before .before .before .byte .ensures)) (c .before .before .put .ensures)))
 
 put-unit-requires : tie.Need-put-unit-requires Inv-loop μ-loop
 put-unit-requires c κs = search needs
@@ -60,7 +60,7 @@ loop-less-2 c = search needs
 loop-again-2 : tie.Need-loop-again-2 Inv-loop μ-loop
 loop-again-2 c =
     let h = c .high .ensures in
-    (search needs, search needs, unit-step (now (c .before .before .before .before .before .before .before .before .before .before .before .before .args .src)) (c .before .before .before .before .before .before .before .before .before .loop .i) (c .before .before .before .before .before .before .before .unit .result) (c .before .before .before .before .before .before .before .before .before .loop .carry) (c .high .result) (search needs) (c .before .before .before .before .before .before .before .unit .ensures .0) (h .is) (c .before .before .before .before .before .before .before .before .before .loop .inv .2) (c .before .before .before .put-unit .ensures))
+    (search needs, search needs, unit-step (now (c .before .before .before .before .before .before .before .before .before .before .before .before .before .args .src)) (c .before .before .before .before .before .before .before .before .before .loop .i) (c .before .before .before .before .before .before .before .unit .result) (c .before .before .before .before .before .before .before .before .before .loop .carry) (c .high .result) (search needs) (c .before .before .before .before .before .before .before .unit .ensures .0) (h .is) (c .before .before .before .before .before .before .before .before .before .loop .inv .2) (c .before .before .before .put-unit .ensures))
 
 put-carried-requires : tie.Need-put-carried-requires Inv-loop μ-loop
 put-carried-requires c κs = search needs
@@ -69,7 +69,7 @@ same-length : tie.Need-same-length Inv-loop μ-loop
 same-length c = search needs
 
 returns : tie.Need-returns Inv-loop μ-loop
-returns c = c .before .before .before .before .before .loop .inv .2 .rest _ _ (rw (units-none (now (c .before .before .before .before .before .before .before .before .args .src)) (c .before .before .before .before .before .loop .i) (search needs), text-end (c .before .before .before .before .before .loop .carry)) (c .before .before .put-carried .ensures))
+returns c = c .before .before .before .before .before .loop .inv .2 .rest _ _ (rw (units-none (now (c .before .before .before .before .before .before .before .before .before .args .src)) (c .before .before .before .before .before .loop .i) (search needs), text-end (c .before .before .before .before .before .loop .carry)) (c .before .before .put-carried .ensures))
 
 pub put-string-spec : {M : Type 1} → statement M
 put-string-spec =
