@@ -1,0 +1,60 @@
+//! Strings: each UTF-16 unit alone, pairs, lone surrogates, escapes, and
+//! lengths.
+
+use super::Value;
+
+/// High surrogates and low ones at the ends of their ranges, and their
+/// neighbours.
+const AROUND_SURROGATES: [u16; 10] =
+    [0xd7ff, 0xd800, 0xd801, 0xdbfe, 0xdbff, 0xdc00, 0xdc01, 0xdffe, 0xdfff, 0xe000];
+/// Units that are written as they are, as an escape, or as U+FFFD.
+const OTHERS: [u16; 9] = [0x41, 0x26, 0x22, 0x0a, 0x00, 0x7f, 0x7ff, 0x800, 0xfffe];
+
+pub fn string(units: &[u16]) -> Value {
+    Value::new(0x01, units.iter().flat_map(|unit| unit.to_le_bytes()).collect::<Vec<u8>>())
+}
+
+pub fn text(text: &str) -> Value {
+    string(&text.encode_utf16().collect::<Vec<u16>>())
+}
+
+pub fn single_units() -> Vec<Value> {
+    (0..=u16::MAX).map(|unit| string(&[unit])).collect()
+}
+
+/// The first and last characters of the planes 1 to 16, each a pair.
+pub fn plane_ends() -> Vec<Value> {
+    let mut values = Vec::new();
+    for plane in 1..=16 {
+        for code in [0, 1, 0x3ff, 0x400, 0xfbff, 0xfc00, 0xfffd, 0xfffe, 0xffff] {
+            let bits = (plane << 16 | code) - 0x1_0000;
+            values.push(string(&[0xd800 + (bits >> 10) as u16, 0xdc00 + (bits & 0x3ff) as u16]));
+        }
+    }
+    values
+}
+
+pub fn escapes_and_surrogates() -> Vec<Value> {
+    let mut values = vec![
+        string(&[]),
+        text("a&b<c>d\"e'f"),
+        text("&amp;&#10;]]>"),
+        text("\t\n\r\u{b}\u{c}"),
+        text("Brücke €😀\u{10ffff}"),
+        text("trailing zeros\0\0\0"),
+        string(&[0x26; 32_767]),
+        string(&[0xd83d; 999]),
+    ];
+    let all = [&AROUND_SURROGATES[..], &OTHERS].concat();
+    for first in &all {
+        for second in &all {
+            values.push(string(&[*first, *second]));
+            values.push(string(&[0xd800, *first, *second]));
+            values.push(string(&[*first, *second, 0xdc00]));
+        }
+    }
+    for size in [1, 3, 5, 255, 65_535] {
+        values.push(Value::new(0x01, vec![0x41; size]));
+    }
+    values
+}
