@@ -1,10 +1,11 @@
 //! The inputs of the comparison: each kind makes inputs from a seed, and the
 //! seeds follow from one fixed number.
 
-use crate::damage::*;
-use crate::generate::*;
-use crate::random::Random;
-use crate::trial::{Calls, Case, Outcome};
+use crate::trial::{Calls, Case};
+use support::damage::*;
+use support::difference::{Difference, Outcome};
+use support::generate::*;
+use support::random::Random;
 
 const SEED: u64 = 0x0065_7674_7800_0001;
 
@@ -56,9 +57,7 @@ const KINDS: [Kind; 28] = [
 ];
 
 /// Hands every case to `use_case` until one differs. Answers how many there were.
-pub fn for_each(
-    use_case: &mut dyn FnMut(&Case) -> Outcome,
-) -> Result<usize, (Case, crate::trial::Difference)> {
+pub fn for_each(use_case: &mut dyn FnMut(&Case) -> Outcome) -> Result<usize, (Case, Difference)> {
     let mut count = 0;
     for (index, kind) in KINDS.iter().enumerate() {
         for round in 0..kind.rounds {

@@ -1,7 +1,7 @@
 //! The first reader's calls, through its C interface. All memory they are
 //! given is lent and guarded.
 
-use crate::lent::Lent;
+use support::lent::Lent;
 
 /// What a check or search answers.
 #[repr(C)]

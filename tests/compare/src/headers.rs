@@ -1,8 +1,9 @@
 //! Compares the checks of file headers and chunks.
 
 use crate::first::{self, Answer};
-use crate::trial::{Outcome, Trial};
+use crate::trial::Trial;
 use second_reader::header;
+use support::difference::Outcome;
 
 pub fn compare(trial: &mut Trial) -> Outcome {
     let bytes = &trial.case.bytes;

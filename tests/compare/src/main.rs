@@ -2,22 +2,21 @@
 //! on many inputs, and fails at the first difference.
 
 mod cases;
-mod damage;
 mod first;
-mod generate;
 mod headers;
-mod lent;
 mod nexts;
-mod offsets;
-mod random;
 mod records;
 mod searches;
-mod tally;
 mod trial;
 
+use std::path::Path;
 use std::process::ExitCode;
-use tally::Tally;
-use trial::{Calls, Case, Difference, Outcome, Trial};
+use support::difference::{report, Difference, Origin, Outcome};
+use support::tally::Tally;
+use trial::{Calls, Case, Trial};
+
+/// The numbers that the compared calls can answer.
+const EXPECTED: [u32; 9] = [0, 1, 2, 3, 4, 5, 6, 7, 13];
 
 /// The groups of calls compared on every input beside the header checks.
 const GROUPS: [fn(&mut Trial) -> Outcome; 3] =
@@ -35,16 +34,11 @@ fn compare(case: &Case, tally: &mut Tally) -> Outcome {
 }
 
 /// Prints the case and leaves its input in the build folder.
-fn report(case: &Case, difference: &Difference) {
-    println!("DIFFERENCE in {} {}", difference.call, difference.asked);
-    println!("{}", difference.found);
-    println!("kind: {}", case.kind);
-    println!("seed: {:#018x}, part {}, {} bytes", case.seed, case.part, case.bytes.len());
-    let path = format!("{}/../../target/compare-difference.bin", env!("CARGO_MANIFEST_DIR"));
-    match std::fs::write(&path, &case.bytes) {
-        Ok(()) => println!("input: {path}"),
-        Err(error) => println!("input not written to {path}: {error}"),
-    }
+fn report_case(case: &Case, difference: &Difference) {
+    let Case { kind, seed, part, bytes, .. } = case;
+    let origin = Origin { kind, seed: *seed, part: *part, bytes };
+    let path = concat!(env!("CARGO_MANIFEST_DIR"), "/../../target/compare-difference.bin");
+    report(difference, &origin, Path::new(path));
 }
 
 fn main() -> ExitCode {
@@ -52,12 +46,12 @@ fn main() -> ExitCode {
     let cases = match cases::for_each(&mut |case| compare(case, &mut tally)) {
         Ok(cases) => cases,
         Err((case, difference)) => {
-            report(&case, &difference);
+            report_case(&case, &difference);
             return ExitCode::FAILURE;
         }
     };
     print!("{tally}");
-    let missing = tally.never_reached();
+    let missing = tally.never_reached(&EXPECTED);
     if !missing.is_empty() {
         println!("numbers never reached: {missing:?}");
         return ExitCode::FAILURE;

@@ -1,9 +1,10 @@
 //! Compares the calls for the next record in a chunk and in loose bytes.
 
 use crate::first::{self, Found};
-use crate::offsets::worth_asking;
-use crate::trial::{Outcome, Trial};
+use crate::trial::Trial;
 use second_reader::record;
+use support::difference::Outcome;
+use support::offsets::worth_asking;
 
 fn answer(found: Result<u64, u32>) -> Found {
     match found {
@@ -13,7 +14,7 @@ fn answer(found: Result<u64, u32>) -> Found {
 }
 
 pub fn compare(trial: &mut Trial) -> Outcome {
-    for from in worth_asking(trial.case) {
+    for from in worth_asking(&trial.case.bytes, trial.case.seed) {
         let asked = format!("from {from}");
         let bytes = &trial.case.bytes;
         let first = first::next_in_chunk(&mut trial.lent, from);

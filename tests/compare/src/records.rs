@@ -1,9 +1,10 @@
 //! Compares the calls for a record's stretch and for its fields.
 
 use crate::first::{self, Fields, Stretch};
-use crate::offsets::worth_asking;
-use crate::trial::{Outcome, Trial};
+use crate::trial::Trial;
 use second_reader::record;
+use support::difference::Outcome;
+use support::offsets::worth_asking;
 
 fn stretch(bytes: &[u8], offset: u64) -> Stretch {
     match record::record_stretch(bytes, offset) {
@@ -22,7 +23,7 @@ fn fields(bytes: &[u8], offset: u64) -> Fields {
 }
 
 pub fn compare(trial: &mut Trial) -> Outcome {
-    for offset in worth_asking(trial.case) {
+    for offset in worth_asking(&trial.case.bytes, trial.case.seed) {
         let asked = format!("offset {offset}");
         let first = first::record_stretch(&mut trial.lent, offset);
         let second = stretch(&trial.case.bytes, offset);

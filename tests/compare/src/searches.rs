@@ -2,10 +2,11 @@
 //! number of records.
 
 use crate::first::{self, Answer};
-use crate::lent::Lent;
-use crate::trial::{Difference, Outcome, Trial};
+use crate::trial::Trial;
 use second_reader::record;
 use std::collections::BTreeSet;
+use support::difference::{Difference, Outcome};
+use support::lent::Lent;
 
 type First = fn(&mut Lent<u8>, &mut Lent<u32>) -> Answer;
 type Second = fn(&[u8], usize) -> Result<Vec<u32>, u32>;

@@ -2,9 +2,10 @@
 //! against answer, with the lent memory checked after each call.
 
 use crate::first::{Answer, Fields, Found, Stretch};
-use crate::lent::Lent;
-use crate::tally::Tally;
 use std::fmt::{Debug, Display};
+use support::difference::{Difference, Outcome};
+use support::lent::Lent;
+use support::tally::Tally;
 
 /// An input for all calls, and how it came about.
 pub struct Case {
@@ -25,15 +26,6 @@ pub enum Calls {
     /// The header checks only, for inputs that differ in header bytes alone.
     Checks,
 }
-
-/// The first thing in which the readers differ.
-pub struct Difference {
-    pub call: &'static str,
-    pub asked: String,
-    pub found: String,
-}
-
-pub type Outcome = Result<(), Difference>;
 
 /// An answer of the C interface.
 pub trait Numbered: Copy + Debug + PartialEq {

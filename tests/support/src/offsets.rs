@@ -2,7 +2,6 @@
 //! its neighbours, the bounds of the input, numbers near 2^64, and others.
 
 use crate::random::Random;
-use crate::trial::Case;
 use second_reader::record::whole_record;
 use std::collections::BTreeSet;
 
@@ -11,11 +10,11 @@ const MOST_RECORDS: usize = 2_400;
 /// Inputs above this length cost much per call and are asked for little.
 const LARGE: usize = 1 << 20;
 
-pub fn worth_asking(case: &Case) -> BTreeSet<u64> {
-    let mut random = Random::new(case.seed);
-    let length = case.bytes.len() as u64;
+pub fn worth_asking(bytes: &[u8], seed: u64) -> BTreeSet<u64> {
+    let mut random = Random::new(seed);
+    let length = bytes.len() as u64;
     let mut offsets = BTreeSet::new();
-    let records = chosen_records(case, &mut random);
+    let records = chosen_records(bytes, &mut random);
     for (start, size) in &records {
         for offset in [start.wrapping_sub(1), *start, start + 1, start + size - 1, start + size] {
             offsets.insert(offset);
@@ -34,20 +33,20 @@ pub fn worth_asking(case: &Case) -> BTreeSet<u64> {
         offsets.extend([near.wrapping_sub(1), near, near.wrapping_add(1)]);
     }
     for _ in 0..6 {
-        offsets.insert(random.below(case.bytes.len() + 64) as u64);
+        offsets.insert(random.below(bytes.len() + 64) as u64);
         offsets.insert(random.number());
     }
-    if case.bytes.len() > LARGE {
+    if bytes.len() > LARGE {
         return offsets.into_iter().filter(|_| random.once_in(4)).collect();
     }
     offsets
 }
 
 /// Start and size of whole records, inside other records or not.
-fn chosen_records(case: &Case, random: &mut Random) -> Vec<(u64, u64)> {
-    let most = if case.bytes.len() > LARGE { 10 } else { MOST_RECORDS };
-    let mut records: Vec<(u64, u64)> = (0..case.bytes.len() as u64)
-        .filter_map(|start| whole_record(&case.bytes, start).map(|size| (start, size)))
+fn chosen_records(bytes: &[u8], random: &mut Random) -> Vec<(u64, u64)> {
+    let most = if bytes.len() > LARGE { 10 } else { MOST_RECORDS };
+    let mut records: Vec<(u64, u64)> = (0..bytes.len() as u64)
+        .filter_map(|start| whole_record(bytes, start).map(|size| (start, size)))
         .collect();
     while records.len() > most {
         records = records.chunks(2).map(|pair| random.pick(pair)).collect();

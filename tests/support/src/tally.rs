@@ -1,11 +1,7 @@
-//! How often each call answered each number, and whether the inputs reached
-//! every number that the compared calls can answer.
+//! How often each call answered each number, and which numbers none answered.
 
 use std::collections::BTreeMap;
 use std::fmt;
-
-/// The numbers that the compared calls can answer.
-const EXPECTED: [u32; 9] = [0, 1, 2, 3, 4, 5, 6, 7, 13];
 
 #[derive(Default)]
 pub struct Tally {
@@ -17,10 +13,10 @@ impl Tally {
         *self.calls.entry(call).or_default().entry(number).or_default() += 1;
     }
 
-    /// The expected numbers that no call answered.
-    pub fn never_reached(&self) -> Vec<u32> {
+    /// Those of the expected numbers that no call answered.
+    pub fn never_reached(&self, expected: &[u32]) -> Vec<u32> {
         let reached = |number: &u32| self.calls.values().any(|counts| counts.contains_key(number));
-        EXPECTED.into_iter().filter(|number| !reached(number)).collect()
+        expected.iter().copied().filter(|number| !reached(number)).collect()
     }
 }
 

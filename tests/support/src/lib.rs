@@ -1,0 +1,11 @@
+//! What both comparing programs need: random numbers, sound and damaged files,
+//! guarded memory, the offsets worth asking for, and the report of a difference.
+#![forbid(unsafe_code)]
+
+pub mod damage;
+pub mod difference;
+pub mod generate;
+pub mod lent;
+pub mod offsets;
+pub mod random;
+pub mod tally;
