@@ -148,7 +148,7 @@ fn put_time(out: &mut [u8], at: usize, d: Date, t: Clock, k: u8, fraction: u64) 
 pub fn put_file_time(out: &mut [u8], at: usize, src: &[u8]) -> Time
     ensures { λ r. ⌜ PutTime (fileTime (take 8 (now (src .entry)))) (now (out .entry)) at (now (out .exit)) r ⌝ }
 {
-    let n = numeral::number_at(src, 0, 8);
+    let n = octets::number_at(src, 0, 8);
     if 2650467743999999999 < n {
         return Time::Wrong;
     }
@@ -205,16 +205,16 @@ pub fn put_sys_time(out: &mut [u8], at: usize, src: &[u8]) -> Time
     ensures { λ r. ⌜ PutTime (sysTime (now (src .entry))) (now (out .entry)) at (now (out .exit)) r ⌝ }
 {
     let date = Date {
-        year: numeral::number_at(src, 0, 2),
-        month: numeral::number_at(src, 2, 2),
-        day: numeral::number_at(src, 6, 2),
+        year: octets::number_at(src, 0, 2),
+        month: octets::number_at(src, 2, 2),
+        day: octets::number_at(src, 6, 2),
     };
     let clock = Clock {
-        hour: numeral::number_at(src, 8, 2),
-        minute: numeral::number_at(src, 10, 2),
-        second: numeral::number_at(src, 12, 2),
+        hour: octets::number_at(src, 8, 2),
+        minute: octets::number_at(src, 10, 2),
+        second: octets::number_at(src, 12, 2),
     };
-    let ms = numeral::number_at(src, 14, 2);
+    let ms = octets::number_at(src, 14, 2);
     if !is_date(date) {
         return Time::Wrong;
     }

@@ -1,66 +1,21 @@
--- The number that little-endian bytes hold, and signed integers, once over the width in bytes.
---     number-below : bytes hold a number below 256 to the power of their count
+-- Signed integers, once over the width in bytes.
 --     signed-low, signed-high : the text of a signed integer, by its bits n and the largest number of its width
-use mathlib.Core.Path.{_≡_, refl, ap, sym, _∙_}
-use mathlib.Core.List.{List, [], _∷_, _++_}
-use Prim.Native.Nat.{ℕ, zero, suc, _+_, _*_, _-_, _/_, _^_, _≤_, _<_}
-use native.Mathlib.Nat.{pow-suc, pow-le-pow-right, lt-of-lt-of-le}
+use mathlib.Core.Path.{_≡_, ap}
+use mathlib.Core.List.{List, _++_}
+use Prim.Native.Nat.{ℕ, suc, _+_, _*_, _-_, _/_, _^_, _≤_, _<_}
+use native.Mathlib.Nat.{pow-le-pow-right}
 use native.Mathlib.Numerals.{add-one}
 use native.Mathlib.Omega.{arith}
 use borrow.Author.Tests.{lt-ltb, le-ltb}
 use lib.Dec.{lit<}
-use lib.ListN.{length, take, drop, getD, length-take, drop-of-length-le}
-use lib.Seq.{take-nil, getD-drop}
-use mir.Syntax.{w8}
-use mir.Val.{Fits}
-use Rattle.rules.specs.Bytes.{if_then_else_, number, Text, ascii}
+use lib.ListN.{length, take, length-take}
+use Rattle.octets.specs.Numbers.{Bytes, number-below, bytes-take}
+use Rattle.rules.specs.Bytes.{number, ascii}
 use Rattle.rules.specs.Numerals.{decimal, signed}
-
--- the elements are bytes
-abbrev pub Bytes : List ℕ → Type 0
-Bytes b = (i : ℕ) → Fits w8 (getD b i 0)
-
-pub number-below : (b : List ℕ) → Bytes b → number b < 256 ^ length b
-number-below [] h = lit< tt
-number-below (x ∷ b) h = rw pow-suc (omega (arith, h 0 .fits, number-below b (λ i. h (suc i))))
-
-pub bytes-take : (n : ℕ) (b : List ℕ) → Bytes b → Bytes (take n b)
-bytes-take zero b h i = record { fits = lit< tt }
-bytes-take (suc n) [] h i = h i
-bytes-take (suc n) (x ∷ b) h zero = h 0
-bytes-take (suc n) (x ∷ b) h (suc i) = bytes-take n b (λ j. h (suc j)) i
 
 -- the width of a number that is read from the front of s
 pub width-most : (s : List ℕ) → length (take 8 s) ≤ 8
 width-most s = rw length-take (omega arith)
-
--- the number in bytes at an offset, from its first byte on; bytes that are not there count as 0
-number-front : (n p : ℕ) (s : List ℕ) → number (take (suc n) (drop p s)) ≡ getD s p 0 + 256 * number (take n (drop (suc p) s))
-number-front n zero [] = rw (take-nil n)
-number-front n zero (x ∷ s) = refl
-number-front n (suc p) [] = rw (take-nil n)
-number-front n (suc p) (x ∷ s) = number-front n p s
-
-pub number-none : (n p : ℕ) (s : List ℕ) → length s ≤ p → number (take n (drop p s)) ≡ 0
-number-none n p s h = rw (drop-of-length-le s h, take-nil n)
-
--- reading the w bytes at p from the last to the first: v is what those from i on hold
-module _ (s : List ℕ) (bytes : Bytes s) (p w i v : ℕ) (most : w ≤ 8) (some : 0 < i) (inside : i ≤ w) (is : v ≡ number (take (w - i) (drop (p + i) s))) where
-  -- one byte more
-  pub number-step : getD s (p + (i - 1)) 0 + v * 256 ≡ number (take (w - (i - 1)) (drop (p + (i - 1)) s))
-  number-step =
-      let a : w - (i - 1) ≡ suc (w - i) = omega arith in
-      let b : suc (p + (i - 1)) ≡ p + i = omega arith in
-      let f = number-front (w - i) (p + (i - 1)) s in
-      rw (a, is) (omega (arith, ap (λ (q : ℕ). number (take (w - i) (drop q s))) b))
-
-  pub number-fits : getD s (p + (i - 1)) 0 + v * 256 < 2 ^ 64
-  number-fits =
-      let part = take (w - (i - 1)) (drop (p + (i - 1)) s) in
-      let l : length part ≤ 8 = rw length-take (omega arith) in
-      let q : 256 ^ length part ≤ 256 ^ 8 = pow-le-pow-right {n = 256} (lit< tt) {j = 8} l in
-      let b = number-below part (bytes-take (w - (i - 1)) (drop (p + (i - 1)) s) (λ j. rw getD-drop (bytes (p + (i - 1) + j)))) in
-      rw number-step (omega arith)
 
 pub in-width : (s : List ℕ) → Bytes s → (n top : ℕ) → n ≡ number (take 8 s) → top + 1 ≡ 256 ^ length (take 8 s) → n ≤ top
 in-width s bytes n top is range = omega (arith, number-below (take 8 s) (bytes-take 8 s bytes), is)

@@ -1,11 +1,11 @@
 // Numbers as text: decimal and hexadecimal, once over the base, the count of digits and the width in bytes.
 ghost use mathlib.Core.Path.{_≡_};
 ghost use mathlib.Core.List.{[]};
-ghost use Prim.Native.Nat.{_+_, _^_, _≤_, _<_, min};
-ghost use lib.ListN.{length, take, getD};
+ghost use Prim.Native.Nat.{_+_, _^_, _≤_, _<_};
+ghost use lib.ListN.{length, take};
 ghost use Rattle.output.specs.Output.{Wrote};
 ghost use Rattle.output.specs.Tables.{tabled};
-ghost use Rattle.rules.specs.Bytes.{number, numberAt};
+ghost use Rattle.rules.specs.Bytes.{number};
 ghost use Rattle.rules.specs.Numerals.{upper, digits, decimal, shortHex, lastDigits, padded, upperHex, unsigned, signed, allHex, hexPairs};
 ghost use Rattle.numeral.specs.Digits.{cased};
 
@@ -89,41 +89,11 @@ fn width(src: &[u8]) -> u8
     if src.len() < 8 { src.len() as u8 } else { 8 }
 }
 
-// The byte at i, or 0 where there is none.
-fn byte_at(src: &[u8], i: usize) -> u64
-    ensures { λ r. ⌜ (r ≡ getD (now (src .entry)) i 0) × (r < 256) ⌝ }
-{
-    if i < src.len() { wide(src[i]) } else { 0 }
-}
-
-fn up_to_8(n: u8) -> u8
-    ensures { λ r. ⌜ r ≡ min 8 n ⌝ }
-{
-    if n < 8 { n } else { 8 }
-}
-
-// The number in the n bytes at offset p, little-endian, of 8 bytes at most.
-pub fn number_at(src: &[u8], p: usize, n: u8) -> u64
-    ensures { λ r. ⌜ r ≡ numberAt p (min 8 n) (now (src .entry)) ⌝ }
-{
-    if src.len() <= p {
-        return 0;
-    }
-    let w = up_to_8(n) as usize;
-    let mut v: u64 = 0;
-    let mut i = w;
-    while 0 < i {
-        i -= 1;
-        v = byte_at(src, p + i) + v * 256;
-    }
-    v
-}
-
 // The number that the bytes hold, of 8 bytes at most.
 fn number_of(src: &[u8]) -> u64
     ensures { λ r. ⌜ r ≡ number (take 8 (now (src .entry))) ⌝ }
 {
-    number_at(src, 0, 8)
+    octets::number_at(src, 0, 8)
 }
 
 // The largest number that fits w bytes.

@@ -1,3 +1,4 @@
 pub mod Split
 pub mod Widths
 pub mod Comparing
+pub mod Numbers

@@ -1,7 +1,7 @@
 // Little-endian numbers from a slice, and comparison with known bytes. A byte that the slice does not have reads as 0, as the definition of `numberAt` has it, so
 // that every function here answers for every offset.
 ghost use mathlib.Core.Path.{_≡_};
-ghost use Prim.Native.Nat.{_<_};
+ghost use Prim.Native.Nat.{_<_, min};
 ghost use lib.ListN.{length, getD};
 ghost use Rattle.rules.specs.Bytes.{part, numberAt, same};
 
@@ -40,6 +40,29 @@ pub fn eight(s: &[u8], i: usize) -> u64
         return 0;
     }
     four(s, i) + 4294967296 * four(s, i + 4)
+}
+
+fn up_to_8(n: u8) -> u8
+    ensures { λ r. ⌜ r ≡ min 8 n ⌝ }
+{
+    if n < 8 { n } else { 8 }
+}
+
+// The number in the n bytes at p, or in 8 where n is more.
+pub fn number_at(s: &[u8], p: usize, n: u8) -> u64
+    ensures { λ r. ⌜ r ≡ numberAt p (min 8 n) (now (s .entry)) ⌝ }
+{
+    if s.len() <= p {
+        return 0;
+    }
+    let w = up_to_8(n) as usize;
+    let mut v: u64 = 0;
+    let mut i = w;
+    while 0 < i {
+        i -= 1;
+        v = octet(s, p + i) + v * 256;
+    }
+    v
 }
 
 // Whether the bytes of `known` stand at i.
