@@ -3,14 +3,13 @@
 --     in-the-year : the month whose days hold the day of the year makes the date
 use mathlib.Core.Path.{_≡_, refl, ap, sym, _∙_}
 use mathlib.Core.Bool.{Bool, true, false, _&&_}
-use mathlib.Core.List.{List, [], _∷_, _++_}
+use mathlib.Core.List.{List, [], _∷_}
 use Prim.Native.Nat.{ℕ, zero, suc, _+_, _*_, _-_, _/_, _≤_, _<_}
 use native.Mathlib.Omega.{arith}
 use borrow.Author.Tests.{leb-true}
 use lib.Dec.{leb}
 use lib.ListN.{length, getD}
-use Rattle.rules.specs.Bytes.{if_then_else_}
-use Rattle.rules.specs.Dates.{leap, commonRow, leapRow, row, daysBefore, daysOfYear, daysOfMonth, Date, dateOf}
+use Rattle.rules.specs.Dates.{leap, commonRow, leapRow, row, daysOfYear, Date, dateOf}
 use Rattle.laws.specs.Tests.{both}
 use Rattle.laws.specs.Calendar.{daysOfYears, days-closed, dayNumber, Real, back-and-there}
 

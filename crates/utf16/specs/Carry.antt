@@ -1,21 +1,21 @@
 -- A high surrogate that is carried over to the next unit, as a number: 0 for none, else one more than its offset.
 --     text-start, text-unit, text-end : a string's text from any unit on, with what was carried over
-use mathlib.Core.Path.{_≡_, refl, ap, ap₂, sym, _∙_}
-use mathlib.Core.Bool.{Bool, true, false, _&&_}
+use mathlib.Core.Path.{_≡_, refl, ap, sym, _∙_}
+use mathlib.Core.Bool.{true, false}
 use mathlib.Core.List.{List, [], _∷_, _++_, append-assoc, append-nil}
 use mathlib.Core.Option.{Option, none, some}
 use Prim.Native.Nat.{ℕ, suc, _+_, _*_, _-_, _≤_, _<_}
 use native.Mathlib.Numerals.{add-one, add-two}
 use native.Mathlib.Omega.{arith}
 use borrow.Author.Tests.{le-leb, lt-leb, ne-eqb}
-use lib.Dec.{eqb, leb}
+use lib.Dec.{eqb}
 use lib.ListN.{length, drop, getD, length-drop}
 use lib.Seq.{drop-cons}
 use Rattle.output.specs.Output.{Wrote}
 use Rattle.output.specs.Loops.{Left, left-step}
 use Rattle.rules.specs.Bytes.{if_then_else_, Text}
 use Rattle.rules.specs.Names.{units}
-use Rattle.rules.specs.Strings.{isHigh, isLow, ofPair, carried, unlessHigh, completed, leftOver, characters, shown, allShown, stringText}
+use Rattle.rules.specs.Strings.{isHigh, isLow, carried, unlessHigh, completed, leftOver, characters, shown, allShown, stringText}
 
 abbrev pub carryOf : ℕ → Option ℕ
 carryOf k = if eqb k 0 then none else some (0xd800 + (k - 1))

@@ -1,17 +1,17 @@
 -- Characters as they are written: which are written as themselves.
-use mathlib.Core.Path.{_≡_, refl, ap, sym, _∙_}
-use mathlib.Core.Bool.{Bool, true, false, _&&_, _||_, not}
-use mathlib.Core.List.{List, [], _∷_, _++_}
-use Prim.Native.Nat.{ℕ, _+_, _*_, _/_, _%_, _≤_, _<_}
+use mathlib.Core.Path.{_≡_, refl, _∙_}
+use mathlib.Core.Bool.{Bool, true, false, _&&_, not}
+use mathlib.Core.List.{List, [], _∷_}
+use Prim.Native.Nat.{ℕ, _+_, _≤_, _<_}
 use native.Mathlib.Omega.{arith}
 use borrow.Author.Tests.{leb-true, eqb-false, not-true, le-leb, lt-ltb, ne-eqb}
-use lib.Dec.{eqb, leb, ltb}
+use lib.Dec.{eqb, leb}
 use lib.ListN.{getD}
 use Rattle.output.specs.Tables.{tabled, tabled-at}
-use Rattle.rules.specs.Bytes.{if_then_else_, Text}
-use Rattle.rules.specs.Strings.{isXml, utf8, escapes, besideOr, carried, shown, allShown, completed}
+use Rattle.rules.specs.Bytes.{if_then_else_}
+use Rattle.rules.specs.Strings.{isXml, utf8, escapes, carried, shown, allShown, completed}
 use Rattle.laws.specs.Tests.{both}
-use Rattle.utf16.specs.Carry.{carryOf, carried-low, Carried, shown-one}
+use Rattle.utf16.specs.Carry.{carryOf, carried-low, shown-one}
 
 -- the unit, with nothing carried over, is written as itself, and carries nothing over
 pub record Plainly (carry u : ℕ) : Type 0 where

@@ -2,18 +2,18 @@
 --     told-refused, told-long, told-fits : what the first run tells, and the second leaves
 use mathlib.Core.Path.{_≡_, refl, ap, sym, _∙_}
 use mathlib.Core.List.{List, [], _∷_, _++_}
-use Prim.Native.Nat.{ℕ, _+_, _*_, _^_, _≤_, _<_}
+use Prim.Native.Nat.{ℕ, _*_, _^_, _≤_, _<_}
 use native.Mathlib.Nat.{zero-add}
 use native.Mathlib.Omega.{arith}
 use borrow.Author.Tests.{le-leb, lt-leb}
-use lib.ListN.{length, take, drop}
+use lib.ListN.{length, drop}
 use Rattle.output.specs.Output.{adv, emit-fits}
-use Rattle.rules.specs.Bytes.{if_then_else_, Text}
+use Rattle.rules.specs.Bytes.{Text}
 use Rattle.rules.specs.Answers.{Outcome, refusal, wrongValue, roomTooSmall, inRoom, numberOf, listOf}
 use Rattle.rules.specs.Values.{Written, written, wrongType, wrongSize, wrongContent}
 use Rattle.value.specs.Value.{answerOf, PutValue, numberIn}
 use Rattle.value.specs.declared.Put.{Put}
-use Rattle.value.specs.declared.Put.the-variants.{Done, WrongType, WrongSize, WrongContent}
+use Rattle.value.specs.declared.Put.the-variants.{Done}
 use Rattle.value_c.specs.declared.EvtxValue.{EvtxValue}
 
 -- what comes of the call with so much room: the text, 11, or 13

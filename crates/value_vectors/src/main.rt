@@ -12,7 +12,7 @@ fn wide(b: u8) -> usize
     b as usize
 }
 
-// The text of one value, or its refusal. No text of 65,535 bytes is longer than out.
+// The text of one value, or its refusal. A value of 65,535 bytes has a text below 262,144, so out is never too small.
 fn show(kind: u8, src: &[u8], out: &mut [u8]) {
     match value::put_value(out, 0, kind, src) {
         Put::Done { at } => {

@@ -1,5 +1,5 @@
 -- `date_of` meets its contract: the month is the last that has begun by the day of the year.
-use mathlib.Core.Path.{_≡_, refl, sym, _∙_}
+use mathlib.Core.Path.{_≡_, sym}
 use Prim.Native.Nat.{_+_, _-_, _≤_}
 use lib.ListN.{getD}
 use Rattle.calendar.specs.Years.{rowOf, row-of, row-starts, in-the-year, not-last}

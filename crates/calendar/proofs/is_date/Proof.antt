@@ -1,9 +1,8 @@
 -- `is_date` meets its contract.
-use mathlib.Core.Path.{_≡_, ap}
+use mathlib.Core.Path.{_≡_}
 use Prim.Native.Nat.{_+_, _-_}
-use lib.ListN.{getD}
 use borrow.Author.Tests.{le-leb, lt-leb}
-use Rattle.calendar.specs.Years.{rowOf, row-of, row-rises}
+use Rattle.calendar.specs.Years.{row-of, row-rises}
 use native.Mathlib.Omega.{arith}
 use borrow.Author.Needs.{needs}
 use Rattle.calendar.proofs.is_date.Statement.{statement}

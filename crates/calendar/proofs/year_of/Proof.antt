@@ -1,6 +1,5 @@
 -- `year_of` meets its contract: the quotient is the year, or the one after it.
 use mathlib.Core.Path.{refl}
-use Prim.Native.Nat.{_-_}
 use Rattle.calendar.specs.Years.{first-guess, second-guess}
 use native.Mathlib.Omega.{arith}
 use borrow.Author.Needs.{needs}

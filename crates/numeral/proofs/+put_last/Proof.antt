@@ -4,7 +4,6 @@ use Prim.Native.Nat.{suc, _-_}
 use native.Mathlib.Nat.{mod-lt}
 use Rattle.output.specs.Output.{wrote-nil, wrote-more}
 use Rattle.rules.specs.Numerals.{lastDigits}
-use Rattle.numeral.specs.Digits.{cased}
 use borrow.Author.Needs.{needs}
 use native.Mathlib.Omega.{arith}
 use Prim.Native.Nat.{ℕ, _<_}

@@ -1,6 +1,6 @@
 -- `put_all_hex` meets its contract: two digits a byte.
 use Rattle.output.specs.Output.{wrote-more}
-use mathlib.Core.Path.{_≡_, _∙_}
+use mathlib.Core.Path.{_≡_}
 use Prim.Native.Nat.{_+_, _*_}
 use denote.Ref.{now}
 use lib.ListN.{length, take}

@@ -1,5 +1,5 @@
 -- `put_pairs` meets its contract. Past the end it only counts; else each byte is a pair, and what is left of src is still to be written.
-use mathlib.Core.Path.{_≡_, refl, _∙_, sym, ap}
+use mathlib.Core.Path.{refl, _∙_, sym, ap}
 use Prim.Native.Nat.{_-_, _≤_}
 use denote.Ref.{now}
 use lib.ListN.{length, drop}

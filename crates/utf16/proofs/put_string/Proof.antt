@@ -1,10 +1,9 @@
 -- `put_string` meets its contract. What is left after i bytes is the text of the units from there on, with what was carried over; a
 -- plain unit is one byte, and any other goes through `put_unit`.
-use mathlib.Core.Path.{_≡_, refl, _∙_, sym, ap}
-use Prim.Native.Nat.{_-_, _+_, _≤_}
+use Prim.Native.Nat.{_-_, _≤_}
 use denote.Ref.{now}
 use lib.ListN.{length, drop}
-use Rattle.output.specs.Loops.{Left, left-start, left-step}
+use Rattle.output.specs.Loops.{Left, left-start}
 use Rattle.rules.specs.Names.{units}
 use Rattle.rules.specs.Strings.{stringText}
 use Rattle.utf16.specs.Carry.{textFrom, text-start, text-end, units-none, unit-step}
