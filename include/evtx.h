@@ -1,4 +1,4 @@
-/* EVTX reader: the calls that read headers, chunks and records of Windows XML event logs.
+/* EVTX reader: the calls that read headers, chunks and records of Windows XML event logs, and write the text of a record.
  *
  * Numbers. Every answer begins with one of these:
  *    0  done
@@ -9,10 +9,15 @@
  *    5  header checksum wrong
  *    6  record data checksum wrong
  *    7  no whole record stands at, or none at or after, the offset asked for
+ *    8  binary XML malformed
+ *    9  pointer leaves the chunk
+ *   10  substitution number not below the value count
+ *   11  value type not supported there, or its size or content wrong
+ *   12  over a depth or count limit
  *   13  output room too small
  * A refused call answers its number and zeros, and leaves all memory as it was.
  *
- * Memory. A call reads the bytes that it is lent and nothing else, and writes only to `offsets`. No call keeps a pointer. The buffers
+ * Memory. A call reads the bytes that it is lent and nothing else, and writes only to `offsets` or `out`. No call keeps a pointer. The buffers
  * of one call must not overlap. A pointer must not be null, also where its length is 0: then it may point to anything, and nothing is
  * read or written. An input may have any length and any content.
  *
@@ -50,6 +55,12 @@ typedef struct {
     uint64_t written_time;
 } evtx_fields;
 
+/* length is the count of bytes of the text; 0 in a refusal */
+typedef struct {
+    uint32_t number;
+    uint64_t length;
+} evtx_text;
+
 /* Checks a file header. Answers 0, or 1 to 5 for the first test that fails: length, magic, version, fixed fields, checksum.
  * length is 0. */
 evtx_answer evtx_check_file_header(const uint8_t *header, size_t header_len);
@@ -80,6 +91,12 @@ evtx_stretch evtx_record_stretch(const uint8_t *chunk, size_t chunk_len, uint64_
 
 /* The number and the written time (100 ns from 1601) of the record at `offset`. Answers 0, 1 or 7, as evtx_record_stretch does. */
 evtx_fields evtx_record_fields(const uint8_t *chunk, size_t chunk_len, uint64_t offset);
+
+/* The text of the record at `offset`, as XML in UTF-8, without a zero at its end. Answers 0 with its length: it stands at the front of
+ * `out`, and the rest of `out` is as it was. Answers 1; 7 if no whole record stands at `offset`, or `offset` is below 512; the number of
+ * the first refusal, 8 to 12, in the order of reading; or 13 exactly if all else succeeds and the text is longer than `room`: `out` is as
+ * it was. The chunk's header is not looked at. */
+evtx_text evtx_record_text(const uint8_t *chunk, size_t chunk_len, uint64_t offset, uint8_t *out, size_t room);
 
 #ifdef __cplusplus
 }

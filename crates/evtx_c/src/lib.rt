@@ -3,8 +3,9 @@ ghost use mathlib.Core.Path.{_≡_};
 ghost use lib.ListN.{length};
 ghost use Rattle.rules.specs.Headers.{checkFileHeader, checkChunk};
 ghost use Rattle.rules.specs.Records.{searchChunk, searchBytes, nextInChunk, nextInBytes, stretchOf, fieldsOf};
+ghost use Rattle.rules.specs.RecordText.{textOf};
 ghost use Rattle.record.specs.Asked.{nextMeaning};
-ghost use Rattle.evtx_c.specs.Answers.{checked, Searched, foundOf, stretchIn, fieldsIn};
+ghost use Rattle.evtx_c.specs.Answers.{checked, Searched, foundOf, stretchIn, fieldsIn, Told};
 
 #[repr(C)]
 pub struct EvtxAnswer {
@@ -30,6 +31,12 @@ pub struct EvtxFields {
     pub number: u32,
     pub record_number: u64,
     pub written_time: u64,
+}
+
+#[repr(C)]
+pub struct EvtxText {
+    pub number: u32,
+    pub length: u64,
 }
 
 // The answer of a check, which has a number and no length.
@@ -149,4 +156,22 @@ pub extern "C" fn evtx_record_fields(chunk: &[u8], offset: u64) -> EvtxFields
             written_time: 0,
         },
     }
+}
+
+// The answer about a text.
+fn told(text: evtx::Answer) -> EvtxText
+    ensures { λ r. ⌜ (r .number ≡ text .number) × (r .length ≡ text .length) ⌝ }
+{
+    EvtxText {
+        number: text.number,
+        length: text.length as u64,
+    }
+}
+
+// The text of a record.
+#[no_mangle]
+pub extern "C" fn evtx_record_text(chunk: &[u8], offset: u64, out: &mut [u8]) -> EvtxText
+    ensures { λ r. ⌜ Told (textOf (now (chunk .entry)) offset (length (now (out .entry)))) (now (out .entry)) (now (out .exit)) r ⌝ }
+{
+    told(evtx::record_text(chunk, offset as usize, out))
 }
