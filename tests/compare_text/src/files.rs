@@ -1,0 +1,48 @@
+//! Whole logs to list: with lines worked out by hand, the samples with the
+//! listings beside them, generated ones, and damaged ones.
+
+mod by_hand;
+mod generated;
+
+use crate::generated::{read_sample, SAMPLES};
+
+pub struct File {
+    pub name: String,
+    pub seed: u64,
+    pub bytes: Vec<u8>,
+    /// The lines by hand, or those that stand beside a sample.
+    pub expected: Option<Vec<u8>>,
+    /// The length of the pieces in which the file reaches the program.
+    pub piece: usize,
+}
+
+impl File {
+    pub fn new(name: &str, bytes: Vec<u8>) -> File {
+        File { name: name.to_string(), seed: 0, bytes, expected: None, piece: 1 << 16 }
+    }
+
+    fn with(self, lines: impl Into<Vec<u8>>) -> File {
+        File { expected: Some(lines.into()), ..self }
+    }
+}
+
+fn samples() -> Vec<File> {
+    let mut files = Vec::new();
+    for name in SAMPLES {
+        // Pieces that end in headers, in records, and in a chunk's last byte.
+        for piece in [1 << 20, 4_096, 1_000, 4_097 + 65_535] {
+            let log = read_sample(&format!("{name}.evtx"));
+            let lines = read_sample(&format!("{name}.listing"));
+            files.push(File { piece, ..File::new(name, log).with(lines) });
+        }
+    }
+    files
+}
+
+/// Hands every file to `list` until it answers an error.
+pub fn for_each<E>(list: &mut dyn FnMut(&File) -> Result<(), E>) -> Result<(), (File, E)> {
+    for file in by_hand::all().into_iter().chain(samples()) {
+        list(&file).map_err(|error| (file, error))?;
+    }
+    generated::for_each(list)
+}

@@ -1,0 +1,67 @@
+//! Cases with answers worked out by hand from document 01, and not by either
+//! reader. A name begins with the number of the question in docs/DECISIONS.md
+//! that the case is for, if there is one.
+
+mod answers;
+mod counts;
+mod examples;
+mod limits;
+mod order;
+mod pointers;
+mod stretches;
+mod texts;
+mod tokens;
+mod unread;
+mod values;
+
+use crate::question::Question;
+
+pub use examples::first as first_example;
+
+pub fn all() -> Vec<Question> {
+    flat([
+        examples::all(),
+        limits::all(),
+        counts::all(),
+        answers::all(),
+        order::all(),
+        stretches::all(),
+        pointers::all(),
+        tokens::all(),
+        texts::all(),
+        values::all(),
+        unread::all(),
+    ])
+}
+
+/// Cases that take tens of seconds.
+pub fn long() -> Vec<Question> {
+    answers::longest()
+}
+
+fn flat<const N: usize>(groups: [Vec<Question>; N]) -> Vec<Question> {
+    groups.into_iter().flatten().collect()
+}
+
+#[cfg(test)]
+mod tests {
+    use super::*;
+    use crate::question::Expected;
+    use second_reader::binxml::record_text;
+
+    /// The second reader alone, so that the cases can be tried without the first.
+    #[test]
+    fn the_second_reader_answers_as_expected() {
+        for question in all() {
+            for offset in &question.offsets {
+                let answer = match record_text(&question.chunk, *offset, 1 << 20) {
+                    Ok(text) => Expected::Text(text),
+                    Err(refusal) => Expected::Refused(refusal.number),
+                };
+                let expected = question.expected.as_ref().expect("an answer by hand");
+                let long = *expected == Expected::Refused(13);
+                assert!(long || answer == *expected, "{}: {answer:?}", question.name);
+            }
+        }
+    }
+}

@@ -1,0 +1,314 @@
+//! A writer of binary XML. Pointers are offsets in the chunk, so a writer knows
+//! at which offset its bytes will stand.
+
+use support::generate::{put, put_u32, CHUNK, MAGIC};
+use support::random::Random;
+
+/// Where the first record of a chunk and its binary XML begin.
+pub const FIRST: usize = 512;
+pub const BODY: usize = FIRST + 24;
+pub const BIN_XML: u8 = 0x21;
+
+/// What a part of the bytes is, for edits that change one of them.
+#[derive(Clone, Copy, Debug, PartialEq, Eq)]
+pub enum Part {
+    Token,
+    Length,
+    Pointer,
+    Count,
+    Kind,
+    Number,
+    Units,
+    Value,
+}
+
+#[derive(Clone, Copy, Debug)]
+pub struct Field {
+    pub part: Part,
+    pub at: usize,
+    pub width: usize,
+}
+
+/// A value of an instance.
+pub enum Value<'a> {
+    /// Type and bytes.
+    Plain(u8, Vec<u8>),
+    /// BinXml: what is written after its stream header.
+    Fragment(&'a dyn Fn(&mut Writer)),
+}
+
+pub fn plain(kind: u8, bytes: impl Into<Vec<u8>>) -> Value<'static> {
+    Value::Plain(kind, bytes.into())
+}
+
+pub struct Writer {
+    start: usize,
+    pub bytes: Vec<u8>,
+    pub fields: Vec<Field>,
+    /// Elements are written without the two unread bytes.
+    pub bare: bool,
+    /// What unread bytes hold; zeros without it.
+    pub filler: Option<Random>,
+}
+
+impl Writer {
+    pub fn at(start: usize) -> Writer {
+        Writer { start, bytes: Vec::new(), fields: Vec::new(), bare: false, filler: None }
+    }
+
+    pub fn here(&self) -> usize {
+        self.start + self.bytes.len()
+    }
+
+    pub fn put(&mut self, bytes: &[u8]) {
+        self.bytes.extend_from_slice(bytes);
+    }
+
+    pub fn u16(&mut self, number: usize) {
+        self.put(&(number as u16).to_le_bytes());
+    }
+
+    pub fn u32(&mut self, number: usize) {
+        self.put(&(number as u32).to_le_bytes());
+    }
+
+    fn note(&mut self, part: Part, width: usize) {
+        self.fields.push(Field { part, at: self.here(), width });
+    }
+
+    pub fn token(&mut self, token: u8) {
+        self.note(Part::Token, 1);
+        self.put(&[token]);
+    }
+
+    pub fn unread(&mut self, length: usize) {
+        let bytes = match &mut self.filler {
+            Some(random) => random.bytes(length),
+            None => vec![0; length],
+        };
+        self.put(&bytes);
+    }
+
+    pub fn stream_header(&mut self) {
+        self.note(Part::Token, 4);
+        self.put(&[0x0f, 1, 1, 0]);
+    }
+
+    pub fn pointer(&mut self, target: usize) {
+        self.note(Part::Pointer, 4);
+        self.u32(target);
+    }
+
+    /// A pointer to the next offset, where the thing itself follows.
+    pub fn pointer_here(&mut self) {
+        self.pointer(self.here() + 4);
+    }
+
+    /// A name as it lies in a chunk, without a pointer.
+    pub fn bare_name(&mut self, name: &str) {
+        self.unread(6);
+        self.note(Part::Count, 2);
+        self.u16(name.len());
+        self.note(Part::Units, 2 * name.len() + 2);
+        self.put(&utf16(name));
+        self.u16(0);
+    }
+
+    pub fn name(&mut self, name: &str) {
+        self.pointer_here();
+        self.bare_name(name);
+    }
+
+    /// A 4-byte length and what it counts.
+    pub fn counted(&mut self, inside: impl FnOnce(&mut Writer)) {
+        self.note(Part::Length, 4);
+        let length_at = self.bytes.len();
+        self.u32(0);
+        inside(self);
+        let length = self.bytes.len() - length_at - 4;
+        put_u32(&mut self.bytes, length_at, length as u32);
+    }
+
+    /// An element: `inside` begins with the name.
+    pub fn element(&mut self, token: u8, inside: impl FnOnce(&mut Writer)) {
+        self.token(token);
+        if !self.bare {
+            self.unread(2);
+        }
+        self.counted(inside);
+    }
+
+    /// `<name>`, items, `</name>`, without attributes.
+    pub fn open(&mut self, name: &str, items: impl FnOnce(&mut Writer)) {
+        self.element(0x01, |w| {
+            w.name(name);
+            w.items(items);
+        });
+    }
+
+    pub fn empty(&mut self, name: &str) {
+        self.element(0x01, |w| {
+            w.name(name);
+            w.token(0x03);
+        });
+    }
+
+    /// An element with attributes and no items.
+    pub fn with_attributes(&mut self, name: &str, attributes: impl FnOnce(&mut Writer)) {
+        self.element(0x41, |w| {
+            w.name(name);
+            w.counted(attributes);
+            w.token(0x03);
+        });
+    }
+
+    /// 02, items, 04.
+    pub fn items(&mut self, items: impl FnOnce(&mut Writer)) {
+        self.token(0x02);
+        items(self);
+        self.token(0x04);
+    }
+
+    pub fn attribute(&mut self, name: &str, items: impl FnOnce(&mut Writer)) {
+        self.token(0x06);
+        self.name(name);
+        items(self);
+    }
+
+    pub fn units(&mut self, units: &[u16]) {
+        self.token(0x05);
+        self.note(Part::Kind, 1);
+        self.put(&[0x01]);
+        self.note(Part::Count, 2);
+        self.u16(units.len());
+        units.iter().for_each(|unit| self.u16((*unit).into()));
+    }
+
+    pub fn literal(&mut self, text: &str) {
+        self.units(&text.encode_utf16().collect::<Vec<u16>>());
+    }
+
+    pub fn substitution(&mut self, token: u8, number: usize) {
+        self.token(token);
+        self.note(Part::Number, 2);
+        self.u16(number);
+        self.unread(1);
+    }
+
+    /// A definition as it lies in a chunk, without a pointer.
+    pub fn bare_definition(&mut self, element: impl FnOnce(&mut Writer)) {
+        self.unread(20);
+        let bare = std::mem::replace(&mut self.bare, false);
+        self.counted(|w| {
+            w.stream_header();
+            element(w);
+            w.token(0x00);
+        });
+        self.bare = bare;
+    }
+
+    pub fn instance_start(&mut self) {
+        self.token(0x0c);
+        self.unread(5);
+    }
+
+    /// An instance whose definition lies at the next offset.
+    pub fn instance(&mut self, element: impl FnOnce(&mut Writer), values: &[Value]) {
+        self.instance_start();
+        self.pointer_here();
+        self.bare_definition(element);
+        self.values(values);
+    }
+
+    /// An instance whose definition lies elsewhere.
+    pub fn pointing(&mut self, definition: usize, values: &[Value]) {
+        self.instance_start();
+        self.pointer(definition);
+        self.values(values);
+    }
+
+    pub fn values(&mut self, values: &[Value]) {
+        let kind = |value: &Value| match value {
+            Value::Plain(kind, _) => *kind,
+            Value::Fragment(_) => BIN_XML,
+        };
+        let kinds: Vec<u8> = values.iter().map(kind).collect();
+        self.values_of(&kinds, |w, index| match &values[index] {
+            Value::Plain(_, bytes) => w.plain_value(bytes),
+            Value::Fragment(inside) => w.fragment(|w| inside(w)),
+        });
+    }
+
+    /// Count, descriptors and values. The values are written in their places,
+    /// so that pointers in them are right.
+    pub fn values_of(&mut self, kinds: &[u8], mut write: impl FnMut(&mut Writer, usize)) {
+        self.note(Part::Count, 4);
+        self.u32(kinds.len());
+        let descriptors = self.bytes.len();
+        for kind in kinds {
+            self.note(Part::Length, 2);
+            self.u16(0);
+            self.note(Part::Kind, 1);
+            self.put(&[*kind]);
+            self.unread(1);
+        }
+        for index in 0..kinds.len() {
+            let from = self.bytes.len();
+            write(self, index);
+            let size = (self.bytes.len() - from) as u16;
+            put(&mut self.bytes, descriptors + 4 * index, &size.to_le_bytes());
+        }
+    }
+
+    pub fn plain_value(&mut self, bytes: &[u8]) {
+        self.note(Part::Value, bytes.len());
+        self.put(bytes);
+    }
+
+    /// The fragment of a BinXml value.
+    pub fn fragment(&mut self, inside: impl FnOnce(&mut Writer)) {
+        let bare = std::mem::replace(&mut self.bare, true);
+        self.stream_header();
+        inside(self);
+        self.bare = bare;
+    }
+}
+
+pub fn utf16(text: &str) -> Vec<u8> {
+    text.encode_utf16().flat_map(u16::to_le_bytes).collect()
+}
+
+/// A record with the given number and binary XML.
+pub fn record(number: u64, body: &[u8]) -> Vec<u8> {
+    let size = (body.len() as u32 + 28).to_le_bytes();
+    let time = [0; 8];
+    [&MAGIC, &size[..], &number.to_le_bytes(), &time, body, &size].concat()
+}
+
+/// An empty chunk with the given bytes at the given offset.
+pub fn chunk_with(offset: usize, bytes: &[u8]) -> Vec<u8> {
+    let mut chunk = vec![0; CHUNK];
+    put(&mut chunk, offset, bytes);
+    chunk
+}
+
+/// A chunk whose one record, at 512, holds what `inside` writes after the
+/// stream header.
+pub fn one_record(inside: impl FnOnce(&mut Writer)) -> Vec<u8> {
+    record_at(FIRST, inside)
+}
+
+/// The same with the record at another offset.
+pub fn record_at(offset: usize, inside: impl FnOnce(&mut Writer)) -> Vec<u8> {
+    let mut writer = Writer::at(offset + 24);
+    writer.stream_header();
+    inside(&mut writer);
+    chunk_with(offset, &record(1, &writer.bytes))
+}
+
+/// Writes into a chunk at an offset, as a thing pointed to.
+pub fn place(chunk: &mut [u8], offset: usize, inside: impl FnOnce(&mut Writer)) {
+    let mut writer = Writer::at(offset);
+    inside(&mut writer);
+    put(chunk, offset, &writer.bytes);
+}
