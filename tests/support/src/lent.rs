@@ -70,7 +70,8 @@ impl Lent<u8> {
     pub fn output(room: usize) -> Lent<u8> {
         let pattern =
             |length: usize| -> Vec<u8> { (0..length).map(|index| 0xf8 | index as u8).collect() };
-        Lent::new(guard(GUARD), &pattern(room), &pattern(GUARD))
+        // The room moves the address too.
+        Lent::new(guard(GUARD + room % 8), &pattern(room), &pattern(GUARD))
     }
 }
 

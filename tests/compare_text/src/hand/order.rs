@@ -130,22 +130,22 @@ fn instances() -> Vec<Question> {
         Question::refused("16: values that fit, and their number", whole, 10),
         Question::refused(
             "16: 257 values and wrong content",
-            { first_with(&[(608, many), (574, wrong)]) },
+            first_with(&[(608, many), (574, wrong)]),
             12,
         ),
         Question::refused(
             "16: a pointer of 511 and 257 values",
-            { first_with(&[(546, below), (550, many)]) },
+            first_with(&[(546, below), (550, many)]),
             9,
         ),
         Question::refused(
             "16: a value too long and wrong content",
-            { first_with(&[(612, &[3]), (578, wrong)]) },
+            first_with(&[(612, &[3]), (578, wrong)]),
             8,
         ),
         Question::refused(
             "16: a value too long and a wrong number",
-            { first_with(&[(612, &[3]), (603, wrong)]) },
+            first_with(&[(612, &[3]), (603, wrong)]),
             8,
         ),
     ]);

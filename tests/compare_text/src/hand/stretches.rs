@@ -117,9 +117,13 @@ fn cut_elements() -> Vec<Question> {
     cases
 }
 
-/// Inline things that leave their stretch and lie in the record all the same.
-fn inline_things() -> Vec<Question> {
-    // An inline name of two units in an element whose length holds only one.
+fn nineteen(name: &str, chunk: Vec<u8>) -> Question {
+    Question::refused(format!("19: {name}"), chunk, 8)
+}
+
+/// Inline names that leave their stretch, in the record and beyond the chunk.
+fn inline_names() -> Vec<Question> {
+    // A name of two units in an element whose length holds only one.
     let name = one_record(|w| {
         w.put(&[0x01, 0, 0]);
         w.u32(4 + 8 + 2 + 2 + 1);
@@ -135,31 +139,43 @@ fn inline_things() -> Vec<Question> {
             w.put(&[3]);
         });
     });
-    // An inline definition in a BinXml value that ends one byte before it.
+    vec![
+        nineteen("a name that leaves its element", name),
+        nineteen("an attribute's name that leaves its list", attribute_name),
+        nineteen("a name that leaves the chunk", first_with(&[(595, &[0xff, 0xff])])),
+    ]
+}
+
+/// Inline definitions in a record, and in a BinXml value that is cut.
+fn inline_definitions() -> Vec<Question> {
     let value = one_record(|w| {
         let inner = |w: &mut Writer| w.instance(|w| w.empty("i"), &[]);
         w.instance(|w| w.open("P", |w| w.substitution(0x0d, 0)), &[Value::Fragment(&inner)]);
     });
-    let cut_value = |bytes: usize| {
+    let cut_value = |bytes: u8| {
         let mut chunk = value.clone();
-        // The descriptor of the one value stands after definition and count.
-        chunk[612] -= bytes as u8;
+        // The size of the one value, which stands after definition and count.
+        chunk[612] -= bytes;
         chunk
     };
-    let refused = |name: &str, chunk| Question::refused(format!("19: {name}"), chunk, 8);
     vec![
-        refused("a name that leaves its element", name),
-        refused("an attribute's name that leaves its list", attribute_name),
         Question::text("19: a definition in a value", value.clone(), "<P><i/></P>"),
-        refused("a value that ends in the count", cut_value(1)),
-        refused("a value that ends with the definition", cut_value(4)),
-        refused("a value that ends in the definition", cut_value(5)),
-        refused("a value that ends in the fixed part", cut_value(35)),
-        refused("a definition that leaves the record", first_with(&[(570, &[45])])),
-        refused("a definition up to the record's end", first_with(&[(570, &[44])])),
+        nineteen("a value that ends in the count", cut_value(1)),
+        nineteen("a value that ends with the definition", cut_value(4)),
+        nineteen("a value that ends in the definition", cut_value(5)),
+        nineteen("a value that ends in the fixed part", cut_value(35)),
+        nineteen("a definition that leaves the record", first_with(&[(570, &[45])])),
+        nineteen("a definition up to the record's end", first_with(&[(570, &[44])])),
+        nineteen("a definition that leaves the chunk", first_with(&[(572, &[1])])),
     ]
 }
 
 pub fn all() -> Vec<Question> {
-    flat([attribute_lists(), element_lengths(), cut_elements(), inline_things()])
+    flat([
+        attribute_lists(),
+        element_lengths(),
+        cut_elements(),
+        inline_names(),
+        inline_definitions(),
+    ])
 }

@@ -55,8 +55,26 @@ fn stepped_over() -> Vec<Question> {
         w.instance(|w| w.open("P", |w| w.substitution(0x0d, 0)), &[plain(0x04, [1])]);
         w.put(stray);
     });
-    let after_00 = one_record(|w| {
-        w.put(&[0x0c, 0, 0, 0, 0, 0]);
+    let after_fragment = one_record(|w| {
+        let inner = |w: &mut Writer| {
+            w.empty("i");
+            w.put(stray);
+        };
+        let both = |w: &mut Writer| (0..2).for_each(|number| w.substitution(0x0d, number));
+        w.instance(|w| w.open("P", both), &[Value::Fragment(&inner), plain(0x04, [1])]);
+    });
+    vec![
+        Question::text("unread: after the fragment", after_element, "<P/>"),
+        Question::text("unread: after the values", after_values, "<P>1</P>"),
+        Question::text("unread: after a definition's 00", after_00(stray), "<P>1</P>"),
+        Question::text("unread: after a value's fragment", after_fragment, "<P><i/>1</P>"),
+    ]
+}
+
+/// A definition with more data after its 00.
+fn after_00(stray: &[u8]) -> Vec<u8> {
+    one_record(|w| {
+        w.instance_start();
         w.pointer_here();
         w.unread(20);
         w.counted(|w| {
@@ -66,26 +84,7 @@ fn stepped_over() -> Vec<Question> {
             w.put(stray);
         });
         w.values(&[plain(0x04, [1])]);
-    });
-    let after_fragment = one_record(|w| {
-        let inner = |w: &mut Writer| {
-            w.empty("i");
-            w.put(&[0x04, 0x0f, 0x99]);
-        };
-        let element = |w: &mut Writer| {
-            w.open("P", |w| {
-                w.substitution(0x0d, 0);
-                w.substitution(0x0d, 1);
-            });
-        };
-        w.instance(element, &[Value::Fragment(&inner), plain(0x04, [1])]);
-    });
-    vec![
-        Question::text("unread: after the fragment", after_element, "<P/>"),
-        Question::text("unread: after the values", after_values, "<P>1</P>"),
-        Question::text("unread: after a definition's 00", after_00, "<P>1</P>"),
-        Question::text("unread: after a value's fragment", after_fragment, "<P><i/>1</P>"),
-    ]
+    })
 }
 
 /// Values that no substitution shows may be wrong in every way.
