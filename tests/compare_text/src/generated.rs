@@ -5,6 +5,7 @@
 mod chunks;
 mod edits;
 mod kinds;
+mod limits;
 mod samples;
 mod stock;
 mod trees;
@@ -27,17 +28,19 @@ struct Kind {
     make: Make,
 }
 
-const KINDS: [Kind; 11] = [
+const KINDS: [Kind; 13] = [
     Kind { name: "sample chunks", rounds: 7, make: samples::whole },
-    Kind { name: "damaged sample chunks", rounds: 60, make: samples::damaged },
-    Kind { name: "sound chunks", rounds: 500, make: kinds::sound },
-    Kind { name: "edited records", rounds: 900, make: kinds::edited },
-    Kind { name: "records cut or stretched", rounds: 200, make: kinds::resized },
+    Kind { name: "damaged sample chunks", rounds: 100, make: samples::damaged },
+    Kind { name: "sound chunks", rounds: 800, make: kinds::sound },
+    Kind { name: "edited records", rounds: 2_000, make: kinds::edited },
+    Kind { name: "lengths that end behind a field", rounds: 800, make: kinds::cut_behind },
+    Kind { name: "records cut or stretched", rounds: 300, make: kinds::resized },
     Kind { name: "records cut anywhere", rounds: 12, make: kinds::cut_anywhere },
     Kind { name: "every bit of a record", rounds: 8, make: kinds::every_bit },
     Kind { name: "values at their boundaries", rounds: 1, make: kinds::boundary_values },
     Kind { name: "deep trees", rounds: 300, make: kinds::deep },
-    Kind { name: "counts around the limit", rounds: 60, make: kinds::counts },
+    Kind { name: "nested fragments", rounds: 500, make: limits::nested },
+    Kind { name: "counts around the limit", rounds: 150, make: limits::counts },
     Kind { name: "chunk lengths", rounds: 40, make: kinds::lengths },
 ];
 

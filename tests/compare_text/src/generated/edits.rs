@@ -32,6 +32,28 @@ pub fn edited(random: &mut Random, made: &Made, placed: &Placed) -> Vec<u8> {
     chunk
 }
 
+/// A chunk with one field changed or not, and the innermost length around it
+/// set so that it ends in that field or a few bytes behind it.
+pub fn edited_and_cut(random: &mut Random, made: &Made, placed: &Placed) -> Vec<u8> {
+    let mut chunk = made.chunk.clone();
+    let field = placed.fields[random.below(placed.fields.len())];
+    let around = |length: &&Field| {
+        let from = length.at + 4;
+        let size = get(&chunk, length.at, 4) as usize;
+        length.part == Part::Length && length.width == 4 && (from..from + size).contains(&field.at)
+    };
+    // Lengths are noted from the outside in.
+    let innermost = placed.fields.iter().filter(around).last().copied();
+    if random.once_in(2) {
+        edit(random, &mut chunk, field, made, placed);
+    }
+    if let Some(length) = innermost {
+        let kept = field.at - length.at - 4 + random.below(field.width + 4);
+        put(&mut chunk, length.at, &(kept as u32).to_le_bytes());
+    }
+    chunk
+}
+
 fn edit(random: &mut Random, chunk: &mut [u8], field: Field, made: &Made, placed: &Placed) {
     let Field { part, at, width } = field;
     if matches!(part, Part::Token | Part::Units | Part::Value) {

@@ -1,7 +1,7 @@
 //! The kinds of generated questions.
 
 use super::chunks::{chunk, deep_chunk, Made};
-use super::edits::edited as edit;
+use super::edits::{edited as edit, edited_and_cut};
 use super::stock::Stock;
 use crate::boundaries;
 use crate::question::Question;
@@ -14,10 +14,14 @@ fn ask(chunk: Vec<u8>, offset: usize) -> Question {
     Question::new("", chunk).at(offset as u64)
 }
 
-/// Every record of a sound chunk, and offsets beside one of them.
+/// Every record of a sound chunk, offsets beside one of them, and a whole
+/// record in the chunk's header, which is none to ask for.
 pub fn sound(random: &mut Random, stock: &Stock, _: usize) -> Vec<Question> {
-    let made = chunk(random, stock, 12);
+    let mut made = chunk(random, stock, 12);
+    let low = random.between(0, 511 - 28);
+    frame(&mut made.chunk, low, 28);
     let mut offsets: Vec<u64> = made.records.iter().map(|placed| placed.offset as u64).collect();
+    offsets.push(low as u64);
     if let Some(placed) = made.records.last() {
         let offset = placed.offset as u64;
         offsets.extend([offset - 1, offset + 1, offset + placed.size as u64, offset + 65_536]);
@@ -31,6 +35,17 @@ pub fn edited(random: &mut Random, stock: &Stock, _: usize) -> Vec<Question> {
     for _ in 0..30 {
         let placed = &made.records[random.below(made.records.len())];
         questions.push(ask(edit(random, &made, placed), placed.offset));
+    }
+    questions
+}
+
+/// A field is changed, and the length around it ends in it or a few bytes later.
+pub fn cut_behind(random: &mut Random, stock: &Stock, _: usize) -> Vec<Question> {
+    let made = chunk(random, stock, 3);
+    let mut questions = Vec::new();
+    for _ in 0..30 {
+        let placed = &made.records[random.below(made.records.len())];
+        questions.push(ask(edited_and_cut(random, &made, placed), placed.offset));
     }
     questions
 }
@@ -114,26 +129,6 @@ pub fn deep(random: &mut Random, stock: &Stock, _: usize) -> Vec<Question> {
     let made = deep_chunk(random, stock);
     let ask_one = |placed: &super::chunks::Placed| ask(made.chunk.clone(), placed.offset);
     made.records.iter().map(ask_one).collect()
-}
-
-/// `outer` times a fragment of `inner` literals, and some literals more, so
-/// that the things counted are near 65,536.
-pub fn counts(random: &mut Random, _: &Stock, _: usize) -> Vec<Question> {
-    let inner = random.between(100, 1_000);
-    let outer = 65_536 / (inner + 2);
-    let counted = 1 + outer * (inner + 2);
-    let rest = (65_536 + random.between(0, 2)).saturating_sub(counted + random.pick(&[0, 1]));
-    let fragment = |w: &mut Writer| w.open("i", |w| (0..inner).for_each(|_| w.literal("")));
-    let chunk = one_record(|w| {
-        let element = |w: &mut Writer| {
-            w.open("o", |w| {
-                (0..outer).for_each(|_| w.substitution(0x0d, 0));
-                (0..rest).for_each(|_| w.literal("x"));
-            });
-        };
-        w.instance(element, &[Value::Fragment(&fragment)]);
-    });
-    vec![ask(chunk, FIRST)]
 }
 
 /// Sound chunks that lack a byte, or have some too many.

@@ -138,7 +138,7 @@ impl Trees<'_> {
         w.bytes[at] = self.random.pick(&[0x05, 0x45]);
     }
 
-    /// A literal where there is no value that could be shown.
+    /// Mostly a literal where there is no value that could be shown.
     fn substitution(&mut self, w: &mut Writer, scope: Scope, in_attribute: bool) {
         let fits = |kind: u8| !(in_attribute && kind == BIN_XML);
         let all = 0..scope.kinds.len();
@@ -147,6 +147,10 @@ impl Trees<'_> {
             false => all.filter(|number| fits(scope.kinds[*number])).collect(),
         };
         match numbers.len() {
+            // Where there are no values every number is refused.
+            0 if self.random.once_in(12) => {
+                w.substitution(self.random.pick(&[0x0d, 0x0e]), self.random.below(3));
+            }
             0 => self.literal(w),
             _ => w.substitution(self.random.pick(&[0x0d, 0x0e]), self.random.pick(&numbers)),
         }
