@@ -46,3 +46,31 @@ pub fn for_each<E>(list: &mut dyn FnMut(&File) -> Result<(), E>) -> Result<(), (
     }
     generated::for_each(list)
 }
+
+#[cfg(test)]
+mod tests {
+    use super::by_hand;
+    use crate::hand;
+    use second_reader::listing::listing;
+
+    /// The questions of docs/DECISIONS.md on answers, order, stretches and text.
+    const QUESTIONS: u32 = 28;
+
+    #[test]
+    fn every_question_has_a_case() {
+        let texts = hand::all().into_iter().map(|question| question.name);
+        let files = by_hand::all().into_iter().map(|file| file.name);
+        let names: Vec<String> = texts.chain(files).collect();
+        for number in 1..=QUESTIONS {
+            let prefix = format!("{number}: ");
+            assert!(names.iter().any(|name| name.starts_with(&prefix)), "question {number}");
+        }
+    }
+
+    #[test]
+    fn the_second_reader_lists_as_expected() {
+        for file in by_hand::all() {
+            assert!(Some(listing(&file.bytes)) == file.expected, "{}", file.name);
+        }
+    }
+}

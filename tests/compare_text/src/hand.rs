@@ -10,6 +10,7 @@ mod order;
 mod pointers;
 mod stretches;
 mod texts;
+mod times;
 mod tokens;
 mod unread;
 mod values;
@@ -30,6 +31,7 @@ pub fn all() -> Vec<Question> {
         tokens::all(),
         texts::all(),
         values::all(),
+        times::all(),
         unread::all(),
     ])
 }

@@ -14,7 +14,7 @@ fn in_attribute(kind: u8, value: &[u8]) -> Vec<u8> {
     })
 }
 
-fn both(kind: u8, value: &[u8], text: &str) -> Vec<Question> {
+pub fn both(kind: u8, value: &[u8], text: &str) -> Vec<Question> {
     let name = |place: &str| format!("type {kind:02x} {place}: {text}");
     vec![
         Question::text(name("element"), shown(kind, value), format!("<P>{text}</P>")),
@@ -22,7 +22,7 @@ fn both(kind: u8, value: &[u8], text: &str) -> Vec<Question> {
     ]
 }
 
-fn wrong(kind: u8, value: &[u8]) -> Vec<Question> {
+pub fn wrong(kind: u8, value: &[u8]) -> Vec<Question> {
     let name = |place: &str| format!("type {kind:02x} {place}: wrong, {} bytes", value.len());
     vec![
         Question::refused(name("element"), shown(kind, value), 11),
@@ -30,8 +30,17 @@ fn wrong(kind: u8, value: &[u8]) -> Vec<Question> {
     ]
 }
 
+/// The same questions, named after a question of docs/DECISIONS.md.
+pub fn named(number: u32, questions: Vec<Question>) -> Vec<Question> {
+    let rename = |mut question: Question| {
+        question.name = format!("{number}: {}", question.name);
+        question
+    };
+    questions.into_iter().map(rename).collect()
+}
+
 /// Type, bytes and text.
-const NUMBERS: [(u8, &[u8], &str); 30] = [
+const NUMBERS: [(u8, &[u8], &str); 23] = [
     (0x00, &[], ""),
     (0x00, &[1, 2, 3], ""),
     (0x03, &[0x80], "-128"),
@@ -49,19 +58,26 @@ const NUMBERS: [(u8, &[u8], &str); 30] = [
     (0x09, &[0xf6, 0xff, 0xff, 0xff, 0xff, 0xff, 0xff, 0xff], "-10"),
     (0x0a, &[0xff; 8], "18446744073709551615"),
     (0x0a, &[0, 0, 0, 0, 1, 0, 0, 0], "4294967296"),
-    (0x0b, &[0x00, 0x00, 0x80, 0x3f], "0x3f800000"),
-    (0x0b, &[0; 4], "0x00000000"),
-    (0x0c, &[0xab, 0, 0, 0, 0, 0, 0, 0xc0], "0xc0000000000000ab"),
-    (0x0d, &[0; 4], "false"),
-    (0x0d, &[1, 0, 0, 0], "true"),
-    (0x0d, &[0, 0, 0, 0x80], "true"),
-    (0x0d, &[0, 2, 0, 0], "true"),
     (0x10, &[0; 4], "0x0"),
     (0x10, &[0xcd, 0xab, 0, 0], "0xabcd"),
     (0x10, &[0, 0, 0, 0, 0, 0, 0, 0x0f], "0xf00000000000000"),
     (0x14, &[0x10, 0, 0, 0], "0x10"),
     (0x15, &[0, 0, 0, 0, 0, 0, 0, 0], "0x0"),
     (0x15, &[0xff; 8], "0xffffffffffffffff"),
+];
+
+const REALS: [(u8, &[u8], &str); 4] = [
+    (0x0b, &[0x00, 0x00, 0x80, 0x3f], "0x3f800000"),
+    (0x0b, &[0; 4], "0x00000000"),
+    (0x0c, &[0xab, 0, 0, 0, 0, 0, 0, 0xc0], "0xc0000000000000ab"),
+    (0x0b, &[1, 2, 3, 0xf4], "0xf4030201"),
+];
+
+const BOOLEANS: [(u8, &[u8], &str); 4] = [
+    (0x0d, &[0; 4], "false"),
+    (0x0d, &[1, 0, 0, 0], "true"),
+    (0x0d, &[0, 0, 0, 0x80], "true"),
+    (0x0d, &[0, 2, 0, 0], "true"),
 ];
 
 const GUID: [u8; 16] = [
@@ -90,59 +106,6 @@ fn identifiers() -> Vec<Question> {
         wrong(0x13, &[]),
         wrong(0x13, &[1, 0, 0, 0, 0, 0, 0]),
         wrong(0x13, &[1, 0, 0, 0, 0, 0, 0, 5, 0]),
-    ])
-}
-
-fn file_times() -> Vec<Question> {
-    let at = |ticks: u64, text: &str| both(0x11, &ticks.to_le_bytes(), text);
-    let day = 864_000_000_000u64;
-    flat([
-        at(0, "1601-01-01T00:00:00.0000000Z"),
-        at(1, "1601-01-01T00:00:00.0000001Z"),
-        at(day - 1, "1601-01-01T23:59:59.9999999Z"),
-        // 1600 + 4: the first leap year, 3 * 365 days on; its 60th day.
-        at((3 * 365 + 59) * day, "1604-02-29T00:00:00.0000000Z"),
-        at((3 * 365 + 60) * day, "1604-03-01T00:00:00.0000000Z"),
-        // 1700 is no leap year: 99 years with 24 leap days lie before it.
-        at((99 * 365 + 24 + 58) * day, "1700-02-28T00:00:00.0000000Z"),
-        at((99 * 365 + 24 + 59) * day, "1700-03-01T00:00:00.0000000Z"),
-        // 2000 is one: 399 years with 96 leap days lie before it.
-        at((399 * 365 + 96 + 59) * day, "2000-02-29T00:00:00.0000000Z"),
-        at((399 * 365 + 96 + 365) * day, "2000-12-31T00:00:00.0000000Z"),
-        at((400 * 365 + 97) * day, "2001-01-01T00:00:00.0000000Z"),
-        at(2_650_467_743_999_999_999, "9999-12-31T23:59:59.9999999Z"),
-        wrong(0x11, &2_650_467_744_000_000_000u64.to_le_bytes()),
-        wrong(0x11, &[0xff; 8]),
-    ])
-}
-
-/// Year, month, weekday, day, hour, minute, second, millisecond.
-fn fields(parts: [u16; 8]) -> Vec<u8> {
-    parts.iter().flat_map(|part| part.to_le_bytes()).collect()
-}
-
-fn system_times() -> Vec<Question> {
-    let right = |parts: [u16; 8], text: &str| both(0x12, &fields(parts), text);
-    let refused = |parts: [u16; 8]| wrong(0x12, &fields(parts));
-    flat([
-        right([1601, 1, 0, 1, 0, 0, 0, 0], "1601-01-01T00:00:00.000Z"),
-        right([9999, 12, 6, 31, 23, 59, 59, 999], "9999-12-31T23:59:59.999Z"),
-        right([2024, 2, 4, 29, 1, 2, 3, 4], "2024-02-29T01:02:03.004Z"),
-        right([2000, 2, 2, 29, 0, 0, 0, 0], "2000-02-29T00:00:00.000Z"),
-        right([2016, 6, 0xffff, 30, 0, 0, 0, 50], "2016-06-30T00:00:00.050Z"),
-        refused([1600, 12, 0, 31, 0, 0, 0, 0]),
-        refused([10_000, 1, 0, 1, 0, 0, 0, 0]),
-        refused([1900, 2, 0, 29, 0, 0, 0, 0]),
-        refused([2023, 2, 0, 29, 0, 0, 0, 0]),
-        refused([2024, 4, 0, 31, 0, 0, 0, 0]),
-        refused([2024, 0, 0, 1, 0, 0, 0, 0]),
-        refused([2024, 13, 0, 1, 0, 0, 0, 0]),
-        refused([2024, 1, 0, 0, 0, 0, 0, 0]),
-        refused([2024, 1, 0, 32, 0, 0, 0, 0]),
-        refused([2024, 1, 0, 1, 24, 0, 0, 0]),
-        refused([2024, 1, 0, 1, 0, 60, 0, 0]),
-        refused([2024, 1, 0, 1, 0, 0, 60, 0]),
-        refused([2024, 1, 0, 1, 0, 0, 0, 1_000]),
     ])
 }
 
@@ -210,15 +173,17 @@ fn fragments() -> Vec<Question> {
     ]
 }
 
+fn table(rows: &[(u8, &[u8], &str)]) -> Vec<Question> {
+    rows.iter().flat_map(|(kind, value, text)| both(*kind, value, text)).collect()
+}
+
 pub fn all() -> Vec<Question> {
-    let numbers = NUMBERS.iter().flat_map(|(kind, value, text)| both(*kind, value, text)).collect();
     flat([
-        numbers,
+        table(&NUMBERS),
+        named(27, table(&REALS)),
+        named(28, table(&BOOLEANS)),
         identifiers(),
-        file_times(),
-        system_times(),
         sizes_and_types(),
         fragments(),
-        both(0x0b, &[1, 2, 3, 0xf4], "0xf4030201"),
     ])
 }
