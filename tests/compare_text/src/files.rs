@@ -12,13 +12,27 @@ pub struct File {
     pub bytes: Vec<u8>,
     /// The lines by hand, or those that stand beside a sample.
     pub expected: Option<Vec<u8>>,
-    /// The length of the pieces in which the file reaches the program.
-    pub piece: usize,
+    pub input: Input,
+}
+
+/// How a file reaches the program's standard input.
+#[derive(Clone, Copy, Debug, PartialEq, Eq)]
+pub enum Input {
+    /// Through a pipe, in pieces of this length.
+    Pieces(usize),
+    /// As a file of the samples folder.
+    Sample(&'static str),
 }
 
 impl File {
     pub fn new(name: &str, bytes: Vec<u8>) -> File {
-        File { name: name.to_string(), seed: 0, bytes, expected: None, piece: 1 << 16 }
+        File {
+            name: name.to_string(),
+            seed: 0,
+            bytes,
+            expected: None,
+            input: Input::Pieces(1 << 16),
+        }
     }
 
     fn with(self, lines: impl Into<Vec<u8>>) -> File {
@@ -30,10 +44,11 @@ fn samples() -> Vec<File> {
     let mut files = Vec::new();
     for name in SAMPLES {
         // Pieces that end in headers, in records, and in a chunk's last byte.
-        for piece in [1 << 20, 4_096, 1_000, 4_097 + 65_535] {
+        let pieces = [1 << 20, 4_096, 1_000, 4_096 + 65_535].map(Input::Pieces);
+        for input in pieces.into_iter().chain([Input::Sample(name)]) {
             let log = read_sample(&format!("{name}.evtx"));
             let lines = read_sample(&format!("{name}.listing"));
-            files.push(File { piece, ..File::new(name, log).with(lines) });
+            files.push(File { input, ..File::new(name, log).with(lines) });
         }
     }
     files

@@ -14,7 +14,7 @@ use crate::question::Question;
 use support::random::Random;
 
 pub use chunks::{chunk as sound_chunk, seal, Made};
-pub use samples::{damaged_sample, read_sample, SAMPLES};
+pub use samples::{damaged_sample, read_sample, sample_path, SAMPLES};
 pub use stock::Stock;
 
 const SEED: u64 = 0x0065_7674_7800_0002;

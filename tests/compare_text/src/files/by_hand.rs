@@ -167,8 +167,8 @@ fn many_chunks() -> Vec<File> {
     vec![File::new("5: a log of 16,846,857 bytes", file(&chunks, 9)).with(lines)]
 }
 
-/// Texts of 65,536 bytes and of one more: 7 for the tags, and the rest 4 bytes
-/// of text for each byte, and a string of one unit, or of two, or of three.
+/// Texts of 65,536 bytes and of one more: 7 bytes of tags, 16,382 bytes of two
+/// digits each, twice, and a literal of one byte or of two.
 fn room() -> Vec<File> {
     let with = |units: &str| {
         let mut chunk = one_record(|w| {

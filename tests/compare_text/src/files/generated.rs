@@ -1,6 +1,6 @@
 //! Generated logs and damaged samples.
 
-use super::File;
+use super::{File, Input};
 use crate::generated::{damaged_sample, seal, sound_chunk, Stock};
 use support::damage::{flip_bits, wrong_chunk_field, wrong_file_field};
 use support::generate::{sound_file_header, CHUNK, HEADER};
@@ -11,8 +11,8 @@ const SOUND: usize = 150;
 const DAMAGED: usize = 60;
 const CUT: usize = 40;
 
-/// A sealed chunk of generated records. Its free space begins at its last
-/// record's end, or before it, or leaves records out.
+/// A sealed chunk of generated records, now and then damaged. Its free space
+/// begins at the last record's end, at the chunk's end, or inside a record.
 fn chunk(random: &mut Random, stock: &Stock) -> Vec<u8> {
     let most = random.pick(&[0, 1, 5, 30]);
     let made = sound_chunk(random, stock, most);
@@ -70,8 +70,8 @@ pub fn for_each<E>(list: &mut dyn FnMut(&File) -> Result<(), E>) -> Result<(), (
             _ if round < SOUND + CUT => ("logs cut", cut_log(random, &stock)),
             _ => ("damaged samples", damaged_sample(random, round)),
         };
-        let piece = random.pick(&[1 << 20, 1 << 20, 65_536, 4_095, 777]);
-        let file = File { seed, piece, ..File::new(name, bytes) };
+        let input = Input::Pieces(random.pick(&[1 << 20, 1 << 20, 65_536, 4_095, 777]));
+        let file = File { seed, input, ..File::new(name, bytes) };
         list(&file).map_err(|error| (file, error))?;
     }
     Ok(())

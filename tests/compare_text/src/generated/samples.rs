@@ -9,9 +9,13 @@ use support::random::Random;
 
 pub const SAMPLES: [&str; 3] = ["panel", "windows", "powercut"];
 
-/// A file of the samples folder.
+/// The path of a file of the samples folder.
+pub fn sample_path(name: &str) -> String {
+    format!("{}/../../samples/{name}", env!("CARGO_MANIFEST_DIR"))
+}
+
 pub fn read_sample(name: &str) -> Vec<u8> {
-    let path = format!("{}/../../samples/{name}", env!("CARGO_MANIFEST_DIR"));
+    let path = sample_path(name);
     std::fs::read(&path).unwrap_or_else(|error| panic!("{path}: {error}"))
 }
 

@@ -55,6 +55,7 @@ fn fragments(depth: usize, each: usize, innermost: Value) -> Vec<u8> {
 
 fn fragment_depth() -> Vec<Question> {
     let five = || plain(0x04, [5]);
+    let no_fragment = fragments(8, 1, plain(0x21, []));
     let mut wrong_bytes = fragments(9, 1, five());
     // Each instance takes 22 bytes before its value: the ninth fragment's first byte.
     wrong_bytes[BODY + 8 * 22] = 0xff;
@@ -64,9 +65,7 @@ fn fragment_depth() -> Vec<Question> {
         Question::refused("fragments 9 deep, before the bytes", wrong_bytes, 12),
         Question::text("elements 32 deep over 8", fragments(8, 4, five()), nested_text(32, "5")),
         Question::refused("elements 35 deep over 7", fragments(7, 5, five()), 12),
-        Question::text("9: BinXml of size 0, 8 deep", fragments(8, 1, plain(0x21, [])), {
-            nested_text(8, "")
-        }),
+        Question::text("9: BinXml of size 0, 8 deep", no_fragment, nested_text(8, "")),
         Question::refused("9: BinXml of size 1, 8 deep", fragments(8, 1, plain(0x21, [0])), 12),
     ]
 }

@@ -88,9 +88,8 @@ fn names() -> Vec<Question> {
             cases.push(Question::refused(format!("a name of {code}"), named(&single), 8));
         }
         if continues {
-            cases.push(Question::text(format!("a name of a and {code}"), named(&second), {
-                format!("<{second}/>")
-            }));
+            let text = format!("<{second}/>");
+            cases.push(Question::text(format!("a name of a and {code}"), named(&second), text));
         } else {
             cases.push(Question::refused(format!("a name of a and {code}"), named(&second), 8));
         }
@@ -105,8 +104,8 @@ fn names_of_other_units() -> Vec<Question> {
     let set = |at: usize, byte: u8| super::examples::first_with(&[(at, &[byte])]);
     vec![
         Question::refused("a name of no unit", one_record(|w| w.empty("")), 8),
-        Question::refused("a name's unit above 255", set(598, 0x01), 8),
-        Question::refused("a name's unit of U+0100 and a letter", set(598, 0xff), 8),
+        Question::refused("a name's unit of U+0150", set(598, 0x01), 8),
+        Question::refused("a name's unit of U+FF50", set(598, 0xff), 8),
         Question::refused("a name's first end byte", set(599, 0x01), 8),
         Question::refused("a name's second end byte", set(600, 0x01), 8),
         Question::refused("a name's count one more", set(595, 2), 8),

@@ -1,11 +1,12 @@
 //! Compares the lines of the first reader's listing program with those of the
 //! second reader, of the samples' listings, and by hand.
 
-use compare_text::files::{self, File};
+use compare_text::files::{self, File, Input};
+use compare_text::generated::sample_path;
 use second_reader::listing::listing;
 use std::io::Write;
 use std::path::Path;
-use std::process::{Command, Stdio};
+use std::process::{Command, Output, Stdio};
 use support::difference::{Difference, Outcome};
 use support::tally::Tally;
 
@@ -42,27 +43,32 @@ fn compare(program: &Path, file: &File, tally: &mut Tally) -> Outcome {
     Ok(())
 }
 
-/// What the program writes for the file on its standard input, which comes in
-/// pieces of the file's choice.
+/// What the program writes for the file on its standard input.
 fn run(program: &Path, file: &File) -> Result<Vec<u8>, String> {
     let failed = |error: std::io::Error| format!("{}: {error}", program.display());
-    let mut child = Command::new(program)
-        .stdin(Stdio::piped())
-        .stdout(Stdio::piped())
-        .spawn()
-        .map_err(failed)?;
-    let mut input = child.stdin.take().expect("a pipe");
-    let output = std::thread::scope(|scope| {
-        // A program that stops reading closes the pipe; its lines then tell.
-        scope.spawn(move || {
-            file.bytes.chunks(file.piece).try_for_each(|piece| input.write_all(piece))
-        });
-        child.wait_with_output().map_err(failed)
-    })?;
+    let mut command = Command::new(program);
+    let output = match file.input {
+        Input::Pieces(length) => through_pipe(&mut command, &file.bytes, length),
+        Input::Sample(name) => {
+            let path = sample_path(&format!("{name}.evtx"));
+            std::fs::File::open(path).and_then(|log| command.stdin(log).output())
+        }
+    };
+    let output = output.map_err(failed)?;
     if !output.status.success() {
         return Err(format!("the program ended with {}", output.status));
     }
     Ok(output.stdout)
+}
+
+fn through_pipe(command: &mut Command, bytes: &[u8], piece: usize) -> std::io::Result<Output> {
+    let mut child = command.stdin(Stdio::piped()).stdout(Stdio::piped()).spawn()?;
+    let mut input = child.stdin.take().expect("a pipe");
+    std::thread::scope(|scope| {
+        // A program that stops reading closes the pipe; its lines then tell.
+        scope.spawn(move || bytes.chunks(piece).try_for_each(|piece| input.write_all(piece)));
+        child.wait_with_output()
+    })
 }
 
 fn first_difference(first: &[u8], other: &[u8], whose: &str) -> Option<String> {
