@@ -73,7 +73,7 @@ mod tests {
 
     #[test]
     fn every_question_has_a_case() {
-        let texts = hand::all().into_iter().map(|question| question.name);
+        let texts = hand::all().map(|question| question.name);
         let files = by_hand::all().into_iter().map(|file| file.name);
         let names: Vec<String> = texts.chain(files).collect();
         for number in 1..=QUESTIONS {

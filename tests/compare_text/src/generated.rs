@@ -37,7 +37,11 @@ const KINDS: [Kind; 13] = [
     Kind { name: "records cut or stretched", rounds: 300, make: kinds::resized },
     Kind { name: "records cut anywhere", rounds: 12, make: kinds::cut_anywhere },
     Kind { name: "every bit of a record", rounds: 8, make: kinds::every_bit },
-    Kind { name: "values at their boundaries", rounds: 1, make: kinds::boundary_values },
+    Kind {
+        name: "values at their boundaries",
+        rounds: kinds::SHARES,
+        make: kinds::boundary_values,
+    },
     Kind { name: "deep trees", rounds: 300, make: kinds::deep },
     Kind { name: "nested fragments", rounds: 500, make: limits::nested },
     Kind { name: "counts around the limit", rounds: 150, make: limits::counts },

@@ -19,24 +19,27 @@ use crate::question::Question;
 
 pub use examples::first as first_example;
 
-pub fn all() -> Vec<Question> {
-    flat([
-        examples::all(),
-        limits::all(),
-        counts::all(),
-        answers::all(),
-        order::all(),
-        stretches::all(),
-        pointers::all(),
-        tokens::all(),
-        texts::all(),
-        values::all(),
-        times::all(),
-        unread::all(),
-    ])
+const GROUPS: [fn() -> Vec<Question>; 12] = [
+    examples::all,
+    limits::all,
+    counts::all,
+    answers::all,
+    order::all,
+    stretches::all,
+    pointers::all,
+    tokens::all,
+    texts::all,
+    values::all,
+    times::all,
+    unread::all,
+];
+
+/// Every case. Each has a chunk of its own, so a group is made when it is due.
+pub fn all() -> impl Iterator<Item = Question> {
+    GROUPS.into_iter().flat_map(|group| group())
 }
 
-/// Cases that take tens of seconds.
+/// Cases that take many seconds.
 pub fn long() -> Vec<Question> {
     answers::longest()
 }
@@ -61,8 +64,7 @@ mod tests {
                     Err(refusal) => Expected::Refused(refusal.number),
                 };
                 let expected = question.expected.as_ref().expect("an answer by hand");
-                let long = *expected == Expected::Refused(13);
-                assert!(long || answer == *expected, "{}: {answer:?}", question.name);
+                assert!(answer == *expected, "{}: {answer:?}", question.name);
             }
         }
     }

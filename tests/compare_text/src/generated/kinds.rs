@@ -10,6 +10,9 @@ use support::damage::frame;
 use support::generate::{put, put_u32, CHUNK};
 use support::random::Random;
 
+/// The rounds of the values at their boundaries.
+pub const SHARES: usize = 20;
+
 fn ask(chunk: Vec<u8>, offset: usize) -> Question {
     Question::new("", chunk).at(offset as u64)
 }
@@ -105,10 +108,11 @@ pub fn every_bit(random: &mut Random, stock: &Stock, _: usize) -> Vec<Question> 
 }
 
 /// Each value at a boundary of its type, in an element and in an attribute.
-pub fn boundary_values(_: &mut Random, _: &Stock, _: usize) -> Vec<Question> {
+/// A round takes the values of one share.
+pub fn boundary_values(_: &mut Random, _: &Stock, round: usize) -> Vec<Question> {
     let mut questions = Vec::new();
     let fitting = boundaries::all().into_iter().filter(|value| value.bytes.len() < 60_000);
-    for value in fitting {
+    for value in fitting.skip(round).step_by(SHARES) {
         let values = || [plain(value.kind, value.bytes.clone())];
         let element = one_record(|w| {
             w.instance(|w| w.open("P", |w| w.substitution(0x0d, 0)), &values());

@@ -2,7 +2,7 @@
 //! reader and with answers worked out by hand, and fails at the first difference.
 //!
 //! `compare_text [--long] [PROGRAM]`: PROGRAM is the first reader's listing
-//! program; `--long` adds cases that take tens of seconds.
+//! program; `--long` adds cases that take many seconds.
 
 mod first;
 mod listings;
@@ -36,11 +36,8 @@ fn report_question(question: &Question, difference: &Difference) {
 
 /// Asks for all texts. Answers whether the readers agree.
 fn texts(long: bool, tally: &mut Tally) -> bool {
-    let mut by_hand = hand::all();
-    if long {
-        by_hand.extend(hand::long());
-    }
-    for question in by_hand {
+    let long_ones = if long { hand::long() } else { Vec::new() };
+    for question in hand::all().chain(long_ones) {
         if let Err(difference) = trial::compare(&question, tally) {
             report_question(&question, &difference);
             return false;
