@@ -3,3 +3,8 @@
 #![forbid(unsafe_code)]
 
 pub mod boundaries;
+pub mod files;
+pub mod generated;
+pub mod hand;
+pub mod question;
+pub mod writer;

@@ -64,6 +64,15 @@ impl Lent<u8> {
         let back = [behind, &guard(GUARD)].concat();
         Lent::new(front, bytes, &back)
     }
+
+    /// Memory for a text of `room` bytes. Its bytes, from f8 to ff, stand in no
+    /// UTF-8, so that a byte written is a byte changed.
+    pub fn output(room: usize) -> Lent<u8> {
+        let pattern =
+            |length: usize| -> Vec<u8> { (0..length).map(|index| 0xf8 | index as u8).collect() };
+        // The room moves the address too.
+        Lent::new(guard(GUARD + room % 8), &pattern(room), &pattern(GUARD))
+    }
 }
 
 impl Lent<u32> {
@@ -95,5 +104,12 @@ mod tests {
         assert!(list.holds_only(&[7]));
         assert!(!list.holds_only(&[7, 8]));
         assert!(!list.holds_only(&[7; 5]));
+    }
+    #[test]
+    fn no_text_looks_like_unchanged_memory() {
+        let output = Lent::output(300);
+        assert!(output.now().iter().all(|byte| *byte >= 0xf8));
+        assert!(output.holds_only(&[]));
+        assert!(!output.holds_only(b"<P/>"));
     }
 }

@@ -18,6 +18,18 @@ impl Tally {
         let reached = |number: &u32| self.calls.values().any(|counts| counts.contains_key(number));
         expected.iter().copied().filter(|number| !reached(number)).collect()
     }
+
+    /// Those of the expected numbers that this call never answered.
+    pub fn never_answered(&self, call: &str, expected: &[u32]) -> Vec<u32> {
+        let counts = self.calls.get(call);
+        let answered = |number: &u32| counts.is_some_and(|counts| counts.contains_key(number));
+        expected.iter().copied().filter(|number| !answered(number)).collect()
+    }
+
+    /// How many answers were noted.
+    pub fn total(&self) -> u64 {
+        self.calls.values().flat_map(BTreeMap::values).sum()
+    }
 }
 
 impl fmt::Display for Tally {

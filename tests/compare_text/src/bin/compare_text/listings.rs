@@ -1,0 +1,110 @@
+//! Compares the lines of the first reader's listing program with those of the
+//! second reader, of the samples' listings, and by hand.
+
+use compare_text::files::{self, File, Input};
+use compare_text::generated::sample_path;
+use second_reader::listing::listing;
+use std::io::Write;
+use std::path::Path;
+use std::process::{Command, Output, Stdio};
+use support::difference::{Difference, Outcome};
+use support::tally::Tally;
+
+pub const HEADER_LINE: &str = "evtx_list, header";
+pub const CHUNK_LINE: &str = "evtx_list, chunk";
+pub const RECORD_LINE: &str = "evtx_list, record";
+const CALL: &str = "evtx_list";
+const SHOWN: usize = 300;
+
+/// Lists every file until one differs.
+pub fn compare_all(program: &Path, tally: &mut Tally) -> Result<(), (File, Difference)> {
+    files::for_each(&mut |file| compare(program, file, tally))
+}
+
+fn compare(program: &Path, file: &File, tally: &mut Tally) -> Outcome {
+    let differ = |found: String| {
+        let asked = format!("of {} bytes", file.bytes.len());
+        Err(Difference { call: CALL, asked, found })
+    };
+    let first = match run(program, file) {
+        Ok(lines) => lines,
+        Err(found) => return differ(found),
+    };
+    let second = listing(&file.bytes);
+    for (whose, lines) in [("second reader", Some(&second)), ("by hand", file.expected.as_ref())] {
+        if let Some(found) = lines.and_then(|lines| first_difference(&first, lines, whose)) {
+            return differ(found);
+        }
+    }
+    second.split(|byte| *byte == 10).filter(|line| !line.is_empty()).for_each(|line| {
+        let (kind, number) = line_number(line);
+        tally.note(kind, number);
+    });
+    Ok(())
+}
+
+/// What the program writes for the file on its standard input.
+fn run(program: &Path, file: &File) -> Result<Vec<u8>, String> {
+    let failed = |error: std::io::Error| format!("{}: {error}", program.display());
+    let mut command = Command::new(program);
+    let output = match file.input {
+        Input::Pieces(length) => through_pipe(&mut command, &file.bytes, length),
+        Input::Sample(name) => {
+            let path = sample_path(&format!("{name}.evtx"));
+            std::fs::File::open(path).and_then(|log| command.stdin(log).output())
+        }
+    };
+    let output = output.map_err(failed)?;
+    if !output.status.success() {
+        return Err(format!("the program ended with {}", output.status));
+    }
+    Ok(output.stdout)
+}
+
+fn through_pipe(command: &mut Command, bytes: &[u8], piece: usize) -> std::io::Result<Output> {
+    let mut child = command.stdin(Stdio::piped()).stdout(Stdio::piped()).spawn()?;
+    let mut input = child.stdin.take().expect("a pipe");
+    std::thread::scope(|scope| {
+        // A program that stops reading closes the pipe; its lines then tell.
+        scope.spawn(move || bytes.chunks(piece).try_for_each(|piece| input.write_all(piece)));
+        child.wait_with_output()
+    })
+}
+
+fn first_difference(first: &[u8], other: &[u8], whose: &str) -> Option<String> {
+    if first == other {
+        return None;
+    }
+    let equal = first.iter().zip(other).take_while(|(one, two)| one == two).count();
+    let line = other[..equal].iter().filter(|byte| **byte == 10).count();
+    let shown = |lines: &[u8]| -> String {
+        let from = lines[..equal].iter().rposition(|byte| *byte == 10).map_or(0, |at| at + 1);
+        String::from_utf8_lossy(&lines[from..])
+            .lines()
+            .next()
+            .unwrap_or("")
+            .chars()
+            .take(SHOWN)
+            .collect()
+    };
+    let (mine, theirs) = (shown(first), shown(other));
+    Some(format!(
+        "byte {equal}, line {}, {} bytes and {} bytes\nfirst reader: {mine}\n{whose}: {theirs}",
+        line + 1,
+        first.len(),
+        other.len()
+    ))
+}
+
+/// Which kind of line it is, and the number it gives: 0 without a refusal.
+fn line_number(line: &[u8]) -> (&'static str, u32) {
+    let line = String::from_utf8_lossy(line);
+    let kind = match line.split(' ').next() {
+        Some("header") => HEADER_LINE,
+        Some("chunk") => CHUNK_LINE,
+        Some("rest") => return ("evtx_list, rest", 0),
+        _ => RECORD_LINE,
+    };
+    let refused = line.rsplit_once("refused ").and_then(|(_, number)| number.parse().ok());
+    (kind, refused.unwrap_or(0))
+}

@@ -1,0 +1,69 @@
+//! Generated questions: sound binary XML, edits of it, and shapes around the
+//! limits. Each kind makes questions from a seed, and the seeds follow from one
+//! fixed number.
+
+mod chunks;
+mod edits;
+mod kinds;
+mod limits;
+mod samples;
+mod stock;
+mod trees;
+
+use crate::question::Question;
+use support::random::Random;
+
+pub use chunks::{chunk as sound_chunk, seal, Made};
+pub use samples::{damaged_sample, read_sample, sample_path, SAMPLES};
+pub use stock::Stock;
+
+const SEED: u64 = 0x0065_7674_7800_0002;
+
+/// Makes questions from random numbers and the number of the round.
+type Make = fn(&mut Random, &Stock, usize) -> Vec<Question>;
+
+struct Kind {
+    name: &'static str,
+    rounds: usize,
+    make: Make,
+}
+
+const KINDS: [Kind; 13] = [
+    Kind { name: "sample chunks", rounds: 7, make: samples::whole },
+    Kind { name: "damaged sample chunks", rounds: 100, make: samples::damaged },
+    Kind { name: "sound chunks", rounds: 800, make: kinds::sound },
+    Kind { name: "edited records", rounds: 2_000, make: kinds::edited },
+    Kind { name: "lengths that end behind a field", rounds: 800, make: kinds::cut_behind },
+    Kind { name: "records cut or stretched", rounds: 300, make: kinds::resized },
+    Kind { name: "records cut anywhere", rounds: 12, make: kinds::cut_anywhere },
+    Kind { name: "every bit of a record", rounds: 8, make: kinds::every_bit },
+    Kind {
+        name: "values at their boundaries",
+        rounds: kinds::SHARES,
+        make: kinds::boundary_values,
+    },
+    Kind { name: "deep trees", rounds: 300, make: kinds::deep },
+    Kind { name: "nested fragments", rounds: 500, make: limits::nested },
+    Kind { name: "counts around the limit", rounds: 150, make: limits::counts },
+    Kind { name: "chunk lengths", rounds: 40, make: kinds::lengths },
+];
+
+/// Hands every question to `ask` until it answers an error.
+pub fn for_each<E>(ask: &mut dyn FnMut(&Question) -> Result<(), E>) -> Result<(), (Question, E)> {
+    let stock = Stock::new();
+    for (index, kind) in KINDS.iter().enumerate() {
+        for round in 0..kind.rounds {
+            let seed = Random::new(SEED + ((index as u64) << 32) + round as u64).number();
+            let questions = (kind.make)(&mut Random::new(seed), &stock, round);
+            for (part, mut question) in questions.into_iter().enumerate() {
+                question.name = kind.name.to_string();
+                question.seed = seed;
+                question.part = part;
+                if let Err(error) = ask(&question) {
+                    return Err((question, error));
+                }
+            }
+        }
+    }
+    Ok(())
+}
