@@ -193,10 +193,14 @@ fn plain(table: &[u8; 128], carry: u32, u: u32) -> bool
     table[u as usize] == b'1'
 }
 
-// The string in the bytes of src; of an odd count of bytes the last is not read.
+// The string in the bytes of src; of an odd count of bytes the last is not read. From 2^63 on the place stays, and the string is not
+// looked at.
 pub fn put_string(out: &mut [u8], at: usize, src: &[u8]) -> usize
     ensures { λ r. ⌜ Wrote (now (out .entry)) at (stringText (units (now (src .entry)))) (now (out .exit)) r ⌝ }
 {
+    if 9223372036854775808 <= at {
+        return at;
+    }
     // `1` for each character of ASCII that is written as itself
     let table =
         b"00000000000000000000000000000000110111001111111111111111111101011111111111111111111111111111111111111111111111111111111111111111";
