@@ -104,16 +104,39 @@ small_record() {
     printf '\x2a\x2a\0\0\x1c\0\0\0\x02\0\0\0\0\0\0\0' && zeros 8 && printf '\x1c\0\0\0'
 }
 
+# Makes headers and checksums of a log of one chunk sound, as document 01 has them, with the free space from byte 622 of the chunk on.
+make_sound() {
+    python3 - "$1" <<'END'
+import struct, sys, zlib
+log = bytearray(open(sys.argv[1], "rb").read())
+log[0:8], log[4096:4104] = b"ElfFile\0", b"ElfChnk\0"
+struct.pack_into("<LHHH", log, 0x20, 128, 1, 3, 4096)
+struct.pack_into("<L", log, 0x7C, zlib.crc32(log[0:120]))
+struct.pack_into("<L", log, 4096 + 40, 128)
+struct.pack_into("<LL", log, 4096 + 48, 622, zlib.crc32(log[4096 + 512:4096 + 622]))
+struct.pack_into("<L", log, 4096 + 124, zlib.crc32(log[4096:4096 + 120] + log[4096 + 128:4096 + 512]))
+open(sys.argv[1], "wb").write(log)
+END
+}
+
 by_hand() {
-    { zeros 4096 && zeros 512 && example_record && small_record && zeros $((65536 - 512 - 110 - 28)) && zeros 5; } >"$made/hand.evtx"
-    printf '%s\n' 'header refused 2' 'chunk 0 refused 2' '512 1 <P>-32768</P>' '622 2 refused 8' 'rest 5' >"$made/hand.due"
-    list_everywhere "by hand" "$made/hand.evtx" "$made/hand.due"
-    printf '%s\n' 'header: Magic' 'chunk 0: Magic' '1 <P>-32768</P>' '2 refused: Malformed' >"$made/due"
-    check "Rust, by hand" "$made/due" "$made/rust/release/evtx_safe" "$made/hand.evtx"
-    printf '%s\n' '4608 110 1' '4718 28 2' >"$made/due"
-    check "carving, by hand" "$made/due" "$made/carve" "$made/hand.evtx"
-    printf 'header refused 1\n' >"$made/due"
-    list_everywhere "no bytes" /dev/null "$made/due"
+    local log=$made/hand.evtx rust=$made/rust/release/evtx_safe due=$made/due
+    { zeros 4096 && zeros 512 && example_record && small_record && zeros $((65536 - 512 - 110 - 28)) && zeros 5; } >"$log"
+    printf '%s\n' 'header refused 2' 'chunk 0 refused 2' '512 1 <P>-32768</P>' '622 2 refused 8' 'rest 5' >"$due"
+    list_everywhere "by hand" "$log" "$due"
+    printf '%s\n' 'header: Magic' 'chunk 0: Magic' '1 <P>-32768</P>' '2 refused: Malformed' >"$due"
+    check "Rust, by hand" "$due" "$rust" "$log"
+    make_sound "$log" || stop "$log cannot be made sound"
+    printf '%s\n' 'header ok' 'chunk 0 ok' '512 1 <P>-32768</P>' 'rest 5' >"$due"
+    list_everywhere "a record in free space" "$log" "$due"
+    printf '%s\n' '1 <P>-32768</P>' '2 refused: Malformed' >"$due"
+    check "Rust, a record in free space" "$due" "$rust" "$log"
+    printf '%s\n' '4608 110 1' '4718 28 2' >"$due"
+    check "carving, a record in free space" "$due" "$made/carve" "$log"
+    printf 'header refused 1\n' >"$due"
+    list_everywhere "no bytes" /dev/null "$due"
+    printf 'header: Length\n' >"$due"
+    check "Rust, no bytes" "$due" "$rust" /dev/null
 }
 
 # A record of 200 bytes, number 3, with a whole small record at its byte 50.
@@ -121,18 +144,31 @@ record_in_record() {
     printf '\x2a\x2a\0\0\xc8\0\0\0\x03\0\0\0\0\0\0\0' && zeros 34 && small_record && zeros 118 && printf '\xc8\0\0\0'
 }
 
-# Records at and around the end of the carver's first window, 16,777,216, and around the last place that this window decides,
-# 16,777,216 - 65,024 = 16,712,192. The record of 200 bytes leaves the window, and the small one inside it does not.
+# A record of 65,024 bytes, the largest, number 4.
+large_record() {
+    printf '\x2a\x2a\0\0\0\xfe\0\0\x04\0\0\0\0\0\0\0' && zeros 65004 && printf '\0\xfe\0\0'
+}
+
+# Around the end of the carver's first window, 16,777,216, and around 16,712,192, the last place that this window decides. The two
+# records of 200 bytes lie across these places, and the small ones inside them on one side.
 across_windows() {
-    local last=$((16777216 - 65024))
-    { zeros $((last - 28)) && small_record && small_record && small_record && zeros $((65024 - 56 - 100)) \
-        && record_in_record && zeros 7 && small_record && zeros 20; } >"$made/long"
-    printf '%s\n' "$((last - 28)) 28 2" "$last 28 2" "$((last + 28)) 28 2" '16777116 200 3' '16777323 28 2' >"$made/due"
-    check "carving across windows" "$made/due" "$made/carve" "$made/long"
-    { zeros $((16777216 - 28)) && small_record; } >"$made/long"
-    echo '16777188 28 2' >"$made/due"
-    check "carving one whole window" "$made/due" "$made/carve" "$made/long"
-    rm -f "$made/long"
+    local last=$((16777216 - 65024)) log=$made/long due=$made/due n
+    { zeros $((last - 40)) && record_in_record && small_record && zeros $((65024 - 188 - 100)) \
+        && record_in_record && zeros 7 && small_record && zeros 20; } >"$log"
+    printf '%s\n' "$((last - 40)) 200 3" "$((last + 160)) 28 2" '16777116 200 3' '16777323 28 2' >"$due"
+    check "carving across windows" "$due" "$made/carve" "$log"
+    for n in $((last - 1)) $last $((last + 1)); do
+        { zeros "$n" && large_record && small_record; } >"$log"
+        printf '%s\n' "$n 65024 4" "$((n + 65024)) 28 2" >"$due"
+        check "carving a large record at $n" "$due" "$made/carve" "$log"
+    done
+    { zeros 16777116 && record_in_record && zeros 20; } >"$log"
+    echo '16777116 200 3' >"$due"
+    check "carving nothing but a record across the end" "$due" "$made/carve" "$log"
+    { zeros $((16777216 - 28)) && small_record; } >"$log"
+    echo '16777188 28 2' >"$due"
+    check "carving one whole window" "$due" "$made/carve" "$log"
+    rm -f "$log"
 }
 
 build
