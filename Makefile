@@ -12,7 +12,7 @@ root = $(DESTDIR)$(PREFIX)
 .PHONY: help test list install clean compare examples
 
 help: ## says what each target does
-	@awk -F ':.*## ' '/^[a-z]+:.*## / { printf "make %-9s %s\n", $$1, $$2 }' Makefile
+	@awk -F ':.*## ' '/^[a-z0-9_-]+:.*## / { printf "make %-9s %s\n", $$1, $$2 }' Makefile
 
 test: ## proves every crate, tries the edits that must be refused and runs every check: the gate
 	@bash .ci/run

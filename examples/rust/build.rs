@@ -9,7 +9,10 @@ fn main() {
     let built = Path::new(&manifest).join("../../target/staticlib");
     let folder = std::env::var_os("EVTX_LIB_DIR").map_or(built, PathBuf::from);
     println!("cargo:rustc-link-search=native={}", folder.display());
-    println!("cargo:rerun-if-changed={}", folder.join("libevtx_c.a").display());
+    println!(
+        "cargo:rerun-if-changed={}",
+        folder.join("libevtx_c.a").display()
+    );
     println!("cargo:rerun-if-env-changed=EVTX_LIB_DIR");
     println!("cargo:rerun-if-changed=build.rs");
 }

@@ -7,8 +7,8 @@
 mod calls;
 mod refusal;
 
-pub use refusal::Refusal;
 use refusal::outcome;
+pub use refusal::Refusal;
 
 /// The room that a search of a chunk never finds too small.
 pub const RECORDS_OF_A_CHUNK: usize = 2_322;
@@ -32,13 +32,17 @@ pub fn check_chunk(chunk: &[u8]) -> Result<(), Refusal> {
 
 /// The offsets of the whole records of a chunk, at the front of the list lent.
 pub fn search_chunk<'a>(chunk: &[u8], list: &'a mut [u32]) -> Result<&'a [u32], Refusal> {
-    let answer = unsafe { calls::evtx_search_chunk(chunk.as_ptr(), chunk.len(), list.as_mut_ptr(), list.len()) };
+    let answer = unsafe {
+        calls::evtx_search_chunk(chunk.as_ptr(), chunk.len(), list.as_mut_ptr(), list.len())
+    };
     outcome(answer.number, &list[..answer.length as usize])
 }
 
 /// The same for up to 16 MiB of bytes of any origin.
 pub fn search_bytes<'a>(bytes: &[u8], list: &'a mut [u32]) -> Result<&'a [u32], Refusal> {
-    let answer = unsafe { calls::evtx_search_bytes(bytes.as_ptr(), bytes.len(), list.as_mut_ptr(), list.len()) };
+    let answer = unsafe {
+        calls::evtx_search_bytes(bytes.as_ptr(), bytes.len(), list.as_mut_ptr(), list.len())
+    };
     outcome(answer.number, &list[..answer.length as usize])
 }
 
@@ -62,15 +66,35 @@ pub fn record_stretch(chunk: &[u8], offset: u64) -> Result<&[u8], Refusal> {
 }
 
 pub fn record_fields(chunk: &[u8], offset: u64) -> Result<Fields, Refusal> {
-    let calls::Fields { number, record_number, written_time } =
-        unsafe { calls::evtx_record_fields(chunk.as_ptr(), chunk.len(), offset) };
-    outcome(number, Fields { record_number, written_time })
+    let calls::Fields {
+        number,
+        record_number,
+        written_time,
+    } = unsafe { calls::evtx_record_fields(chunk.as_ptr(), chunk.len(), offset) };
+    outcome(
+        number,
+        Fields {
+            record_number,
+            written_time,
+        },
+    )
 }
 
 /// The text of a record, at the front of the memory lent. A refusal leaves that
 /// memory as it was.
 pub fn record_text<'a>(chunk: &[u8], offset: u64, out: &'a mut [u8]) -> Result<&'a str, Refusal> {
-    let answer = unsafe { calls::evtx_record_text(chunk.as_ptr(), chunk.len(), offset, out.as_mut_ptr(), out.len()) };
+    let answer = unsafe {
+        calls::evtx_record_text(
+            chunk.as_ptr(),
+            chunk.len(),
+            offset,
+            out.as_mut_ptr(),
+            out.len(),
+        )
+    };
     let text = &out[..answer.length as usize];
-    outcome(answer.number, std::str::from_utf8(text).expect("the text is UTF-8"))
+    outcome(
+        answer.number,
+        std::str::from_utf8(text).expect("the text is UTF-8"),
+    )
 }
