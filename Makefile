@@ -10,6 +10,7 @@ sources := crates.txt $(shell find crates -name '*.rt' -o -name '*.antt')
 root = $(DESTDIR)$(PREFIX)
 
 .PHONY: help test list install clean compare examples
+.NOTPARALLEL:
 
 help: ## says what each target does
 	@awk -F ':.*## ' '/^[a-z0-9_-]+:.*## / { printf "make %-9s %s\n", $$1, $$2 }' Makefile
@@ -38,7 +39,7 @@ install: $(program) $(archive) ## installs program, library, header, pkg-config 
 clean: ## removes all that was built; what was proved has to be proved again
 	@rm -rf target tests/target examples/rust/target
 
-# rt proves before it builds. It leaves a file alone whose sources have changed in nothing but their time, hence the touch.
+# rt proves before it builds, one crate's run at a time. It leaves a file alone whose sources have changed in nothing but their time, hence the touch.
 $(program): $(sources)
 	@mkdir -p target
 	@rt check evtx_list >target/program.log 2>&1 || { cat target/program.log >&2; exit 1; }
