@@ -54,7 +54,9 @@ def our_records(program, path):
 def evtxexport(path):
     """The events that evtxexport gives, in its order, without their offsets."""
     command = ["evtxexport", "-f", "xml", path]
-    output = subprocess.run(command, stdout=subprocess.PIPE, check=True).stdout.decode("utf-8")
+    run = subprocess.run(command, stdout=subprocess.PIPE, check=False)
+    # It refuses some logs as a whole; then it has given no event.
+    output = run.stdout.decode("utf-8") if run.returncode == 0 else ""
     events = output[output.find("<"):] if "<" in output else ""
     events = re.sub(r"<\?xml[^>]*\?>", "", events)
     return [(None, event) for event in ElementTree.fromstring("<all>" + events + "</all>")]
