@@ -1,9 +1,9 @@
 -- One byte goes through the table: the table's law.
-use borrow.Author.Needs.{needs}
 use mathlib.Core.Path.{sym}
 use lib.Bits.{bitXor}
 use Rattle.rules.specs.Checksum.{crcByte}
 use Rattle.crc32.specs.Linear.{by-table}
+use borrow.Author.Needs.{needs}
 use Rattle.crc32.proofs.step.Statement.{statement}
 use Rattle.crc32.proofs.step.Tie as tie
 

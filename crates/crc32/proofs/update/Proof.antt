@@ -1,16 +1,18 @@
--- The loop goes through the part byte by byte; its invariant is `Passing`.
-use borrow.Author.Needs.{needs}
+-- The loop goes through the part byte by byte; its invariant is `Passing`. The table is right by one computed test over all its entries.
+use mathlib.Core.Path.{refl}
 use Prim.Native.Nat.{_-_, _≤_}
 use lib.ListN.{length}
+use Rattle.crc32.specs.Table.{right}
 use Rattle.crc32.specs.Passing.{Passing, pass-start, pass-step, pass-end}
+use borrow.Author.Needs.{needs}
 use Rattle.crc32.proofs.update.Statement.{statement}
 use Rattle.crc32.proofs.update.Tie as tie
 
 abbrev Inv-loop : tie.InvT-loop
-Inv-loop state part c₀ i₀ c i = (i ≤ length part) × Passing state part c i
+Inv-loop state part table c₀ i₀ c i = (i ≤ length part) × Passing state part c i
 
 abbrev μ-loop : tie.MeasureT-loop
-μ-loop state part c₀ i₀ c i = length part - i
+μ-loop state part table c₀ i₀ c i = length part - i
 
 loop-holds : tie.Need-loop-holds Inv-loop μ-loop
 loop-holds c = (search needs, pass-start)
@@ -19,7 +21,8 @@ shared-slice-read-step : tie.Need-shared-slice-read-step Inv-loop μ-loop
 shared-slice-read-step c = search needs
 
 step-requires : tie.Need-step-requires Inv-loop μ-loop
-step-requires c κs = search needs
+unfolding right
+step-requires c κs = (refl, refl)
 
 add-i : tie.Need-add-i Inv-loop μ-loop
 add-i c = search needs
@@ -28,7 +31,7 @@ loop-less : tie.Need-loop-less Inv-loop μ-loop
 loop-less c = search needs
 
 loop-again : tie.Need-loop-again Inv-loop μ-loop
-loop-again c = (search needs, pass-step _ (search needs) (c .before .before .before .loop .inv .1) (c .step .ensures))
+loop-again c = (search needs, pass-step _ (search needs) (c .before .before .before .before .loop .inv .1) (c .step .ensures))
 
 returns : tie.Need-returns Inv-loop μ-loop
 returns c = pass-end (search needs) (c .before .loop .inv .1)
