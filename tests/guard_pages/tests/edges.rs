@@ -6,6 +6,8 @@ use guard_pages::fenced::{Edge, Fenced, EDGES};
 use second_reader::binxml::{read_record, record_text};
 use second_reader::{header, record};
 use std::collections::BTreeSet;
+use std::os::unix::process::ExitStatusExt;
+use std::process::Command;
 use support::damage::*;
 use support::generate::*;
 use support::offsets::worth_asking;
@@ -202,4 +204,22 @@ fn texts() {
         Ok(())
     });
     assert!(outcome.is_ok() && asked > 300, "{asked} chunks of {turn}");
+}
+
+#[test]
+#[ignore = "it ends the program: a_byte_too_many_is_fatal starts it"]
+fn told_a_byte_too_many() {
+    let input = Fenced::input(&[0; 4_096], Edge::Back);
+    // Not safe, which is what is tried: the length is one more than is lent.
+    unsafe { evtx_search_bytes(input.pointer(), input.len() + 1, [0].as_mut_ptr(), 1) };
+}
+
+/// A call that reads one byte beyond what is lent is seen.
+#[test]
+fn a_byte_too_many_is_fatal() {
+    const SEGMENTATION_FAULT: i32 = 11;
+    let program = std::env::current_exe().expect("the path of this program");
+    let arguments = ["--exact", "told_a_byte_too_many", "--ignored"];
+    let outcome = Command::new(program).args(arguments).output().expect("a run of this program");
+    assert_eq!(outcome.status.signal(), Some(SEGMENTATION_FAULT));
 }
