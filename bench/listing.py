@@ -1,21 +1,22 @@
 """The listing beside evtxexport, on one core, and the memory it takes: listing.py PROGRAM LOG RECORDS.
 
-Both read the log from the page cache, which an untimed run of each fills, and write to /dev/null."""
+Both read the log from the page cache, which an untimed run of each fills, and write to /dev/null. Times are processor times, so that other
+processes do not count."""
 import os
 import re
 import subprocess
 import sys
-import time
 
 HEADER, TRIES, ABOUT_1_GB = 4096, 5, 51
 
 
 def seconds(command, log):
-    """How long a command takes with the log on its standard input."""
+    """The processor time of a command with the log on its standard input."""
     with open(log, 'rb') as file:
-        start = time.perf_counter()
-        subprocess.run(command, stdin=file, stdout=subprocess.DEVNULL, check=True)
-        return time.perf_counter() - start
+        _, status, usage = os.wait4(subprocess.Popen(command, stdin=file, stdout=subprocess.DEVNULL).pid, 0)
+    if status != 0:
+        sys.exit(f'listing: {command[0]} failed')
+    return usage.ru_utime + usage.ru_stime
 
 
 def lines(command, log, pattern):

@@ -4,7 +4,7 @@
 //! each call counts it and answers 13.
 
 use compare_text::writer::*;
-use std::time::Instant;
+use std::ffi::c_long;
 
 const ROOM: usize = 65_536;
 const TRIES: usize = 2;
@@ -19,6 +19,8 @@ struct Text {
 }
 
 extern "C" {
+    /// The processor time of this process, in microseconds.
+    fn clock() -> c_long;
     fn evtx_record_text(
         chunk: *const u8,
         chunk_len: usize,
@@ -59,16 +61,22 @@ fn one_name() -> Vec<u8> {
     chunk
 }
 
+/// In seconds; other processes do not count.
+fn processor_time() -> f64 {
+    // Safety: it takes nothing.
+    unsafe { clock() as f64 * 1e-6 }
+}
+
 /// The best time of some, in seconds.
 fn seconds(chunk: &[u8], out: &mut [u8]) -> f64 {
     let mut best = f64::INFINITY;
     for _ in 0..TRIES {
-        let start = Instant::now();
+        let start = processor_time();
         // Safety: pointers and lengths are those of two slices that live through the call.
         let answer = unsafe {
             evtx_record_text(chunk.as_ptr(), chunk.len(), 512, out.as_mut_ptr(), out.len())
         };
-        best = best.min(start.elapsed().as_secs_f64());
+        best = best.min(processor_time() - start);
         assert_eq!((answer.number, answer.length), (13, 0), "not the record that was meant");
     }
     best
