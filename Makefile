@@ -1,5 +1,7 @@
 # Proving, building, installing and comparing. `make help` lists the targets: a target is listed if a ## and a sentence stand beside it.
 LOG ?= samples/panel.evtx
+MINUTES ?= 0
+SEED ?=
 PREFIX ?= /usr/local
 DESTDIR ?=
 VERSION = 0.1.0
@@ -9,7 +11,7 @@ archive = target/staticlib/libevtx_c.a
 sources := crates.txt $(shell find crates -name '*.rt' -o -name '*.antt')
 root = $(DESTDIR)$(PREFIX)
 
-.PHONY: help test list install clean compare examples
+.PHONY: help test list install clean compare examples bench soak
 .NOTPARALLEL:
 
 help: ## says what each target does
@@ -26,6 +28,12 @@ compare: $(program) ## compares our listing of LOG=path with the second reader's
 
 examples: $(program) $(archive) ## builds the examples in C, Rust and Python and compares what they write with what is due
 	@bash tests/examples.sh
+
+bench: $(program) $(archive) ## measures speed and memory beside other programs (docs/BENCHMARKS.md)
+	@$(MAKE) --no-print-directory -C bench
+
+soak: $(program) $(archive) ## compares both readers for MINUTES=n, each time with another seed, or once with SEED=s (docs/ENDURANCE.md)
+	@bash tests/soak.sh $(MINUTES) $(SEED)
 
 install: $(program) $(archive) ## installs program, library, header, pkg-config file and man page under PREFIX (/usr/local), in DESTDIR if given
 	@install -d "$(root)/bin" "$(root)/include" "$(root)/lib/pkgconfig" "$(root)/share/man/man1"

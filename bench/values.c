@@ -5,7 +5,7 @@
 #include <stdint.h>
 #include <stdio.h>
 #include <string.h>
-#include <time.h>
+#include "clock.h"
 
 struct evtx_value {
     uint32_t number;
@@ -115,13 +115,6 @@ static size_t run(int proved, uint8_t kind)
     if (proved)
         return evtx_put_value(kind, src, SIZE, out, ROOM).length;
     return kind == STRING ? string_in_c(src, SIZE, other, ROOM) : binary_in_c(src, SIZE, other, ROOM);
-}
-
-static double now(void)
-{
-    struct timespec t;
-    clock_gettime(CLOCK_MONOTONIC, &t);
-    return (double)t.tv_sec + 1e-9 * (double)t.tv_nsec;
 }
 
 /* megabytes of the value a second */

@@ -1,5 +1,5 @@
 //! The inputs of the comparison: each kind makes inputs from a seed, and the
-//! seeds follow from one fixed number.
+//! seeds follow from one number.
 
 use crate::trial::{Calls, Case};
 use support::damage::*;
@@ -7,7 +7,8 @@ use support::difference::{Difference, Outcome};
 use support::generate::*;
 use support::random::Random;
 
-const SEED: u64 = 0x0065_7674_7800_0001;
+/// The number for a run that is given none.
+pub const SEED: u64 = 0x0065_7674_7800_0001;
 
 /// Lent bytes, what stands behind them, and the calls they are for.
 pub struct Input {
@@ -57,11 +58,15 @@ const KINDS: [Kind; 28] = [
 ];
 
 /// Hands every case to `use_case` until one differs. Answers how many there were.
-pub fn for_each(use_case: &mut dyn FnMut(&Case) -> Outcome) -> Result<usize, (Case, Difference)> {
+pub fn for_each(
+    base: u64,
+    use_case: &mut dyn FnMut(&Case) -> Outcome,
+) -> Result<usize, (Case, Difference)> {
     let mut count = 0;
     for (index, kind) in KINDS.iter().enumerate() {
         for round in 0..kind.rounds {
-            let seed = Random::new(SEED + ((index as u64) << 32) + round as u64).number();
+            let place = ((index as u64) << 32) + round as u64;
+            let seed = Random::new(base.wrapping_add(place)).number();
             let inputs = (kind.make)(&mut Random::new(seed), round);
             for (part, input) in inputs.into_iter().enumerate() {
                 let Input { bytes, behind, calls } = input;

@@ -1,5 +1,7 @@
 //! Compares the first reader, through its C interface, with the second reader
 //! on many inputs, and fails at the first difference.
+//!
+//! `compare [--seed NUMBER]`: the inputs follow from NUMBER, or from a fixed one.
 
 mod cases;
 mod first;
@@ -12,6 +14,7 @@ mod trial;
 use std::path::Path;
 use std::process::ExitCode;
 use support::difference::{report, Difference, Origin, Outcome};
+use support::seed::take_seed;
 use support::tally::Tally;
 use trial::{Calls, Case, Trial};
 
@@ -42,8 +45,16 @@ fn report_case(case: &Case, difference: &Difference) {
 }
 
 fn main() -> ExitCode {
+    let seed = match take_seed(&mut std::env::args().skip(1).collect()) {
+        Ok(seed) => seed,
+        Err(error) => {
+            println!("{error}");
+            return ExitCode::FAILURE;
+        }
+    };
     let mut tally = Tally::default();
-    let cases = match cases::for_each(&mut |case| compare(case, &mut tally)) {
+    let base = seed.unwrap_or(cases::SEED);
+    let cases = match cases::for_each(base, &mut |case| compare(case, &mut tally)) {
         Ok(cases) => cases,
         Err((case, difference)) => {
             report_case(&case, &difference);
@@ -56,6 +67,6 @@ fn main() -> ExitCode {
         println!("numbers never reached: {missing:?}");
         return ExitCode::FAILURE;
     }
-    println!("{cases} inputs, no difference");
+    println!("{cases} inputs, {} answers, no difference", tally.total());
     ExitCode::SUCCESS
 }

@@ -2,7 +2,7 @@
 //! listings beside them, generated ones, and damaged ones.
 
 mod by_hand;
-mod generated;
+pub mod generated;
 
 use crate::generated::{read_sample, SAMPLES};
 
@@ -59,7 +59,7 @@ pub fn for_each<E>(list: &mut dyn FnMut(&File) -> Result<(), E>) -> Result<(), (
     for file in by_hand::all().into_iter().chain(samples()) {
         list(&file).map_err(|error| (file, error))?;
     }
-    generated::for_each(list)
+    generated::for_each(generated::SEED, list)
 }
 
 #[cfg(test)]

@@ -1,6 +1,6 @@
 //! Generated questions: sound binary XML, edits of it, and shapes around the
 //! limits. Each kind makes questions from a seed, and the seeds follow from one
-//! fixed number.
+//! number.
 
 mod chunks;
 mod edits;
@@ -17,7 +17,8 @@ pub use chunks::{chunk as sound_chunk, seal, Made};
 pub use samples::{damaged_sample, read_sample, sample_path, SAMPLES};
 pub use stock::Stock;
 
-const SEED: u64 = 0x0065_7674_7800_0002;
+/// The number for a run that is given none.
+pub const SEED: u64 = 0x0065_7674_7800_0002;
 
 /// Makes questions from random numbers and the number of the round.
 type Make = fn(&mut Random, &Stock, usize) -> Vec<Question>;
@@ -49,11 +50,15 @@ const KINDS: [Kind; 13] = [
 ];
 
 /// Hands every question to `ask` until it answers an error.
-pub fn for_each<E>(ask: &mut dyn FnMut(&Question) -> Result<(), E>) -> Result<(), (Question, E)> {
+pub fn for_each<E>(
+    base: u64,
+    ask: &mut dyn FnMut(&Question) -> Result<(), E>,
+) -> Result<(), (Question, E)> {
     let stock = Stock::new();
     for (index, kind) in KINDS.iter().enumerate() {
         for round in 0..kind.rounds {
-            let seed = Random::new(SEED + ((index as u64) << 32) + round as u64).number();
+            let place = ((index as u64) << 32) + round as u64;
+            let seed = Random::new(base.wrapping_add(place)).number();
             let questions = (kind.make)(&mut Random::new(seed), &stock, round);
             for (part, mut question) in questions.into_iter().enumerate() {
                 question.name = kind.name.to_string();

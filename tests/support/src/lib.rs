@@ -8,4 +8,5 @@ pub mod generate;
 pub mod lent;
 pub mod offsets;
 pub mod random;
+pub mod seed;
 pub mod tally;

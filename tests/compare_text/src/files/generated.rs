@@ -6,7 +6,8 @@ use support::damage::{flip_bits, wrong_chunk_field, wrong_file_field};
 use support::generate::{sound_file_header, CHUNK, HEADER};
 use support::random::Random;
 
-const SEED: u64 = 0x0065_7674_7800_0003;
+/// The number for a run that is given none.
+pub const SEED: u64 = 0x0065_7674_7800_0003;
 const SOUND: usize = 150;
 const DAMAGED: usize = 60;
 const CUT: usize = 40;
@@ -60,10 +61,13 @@ fn cut_log(random: &mut Random, stock: &Stock) -> Vec<u8> {
 }
 
 /// Hands every file to `list` until it answers an error.
-pub fn for_each<E>(list: &mut dyn FnMut(&File) -> Result<(), E>) -> Result<(), (File, E)> {
+pub fn for_each<E>(
+    base: u64,
+    list: &mut dyn FnMut(&File) -> Result<(), E>,
+) -> Result<(), (File, E)> {
     let stock = Stock::new();
     for round in 0..SOUND + CUT + DAMAGED {
-        let seed = Random::new(SEED + round as u64).number();
+        let seed = Random::new(base.wrapping_add(round as u64)).number();
         let random = &mut Random::new(seed);
         let (name, bytes) = match round {
             0..SOUND => ("generated logs", log(random, &stock)),

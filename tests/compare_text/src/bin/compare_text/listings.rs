@@ -16,9 +16,17 @@ pub const RECORD_LINE: &str = "evtx_list, record";
 const CALL: &str = "evtx_list";
 const SHOWN: usize = 300;
 
-/// Lists every file until one differs.
-pub fn compare_all(program: &Path, tally: &mut Tally) -> Result<(), (File, Difference)> {
-    files::for_each(&mut |file| compare(program, file, tally))
+/// Lists every file until one differs; with a seed, the files made of it.
+pub fn compare_all(
+    program: &Path,
+    seed: Option<u64>,
+    tally: &mut Tally,
+) -> Result<(), (File, Difference)> {
+    let list = &mut |file: &File| compare(program, file, tally);
+    match seed {
+        Some(seed) => files::generated::for_each(seed, list),
+        None => files::for_each(list),
+    }
 }
 
 fn compare(program: &Path, file: &File, tally: &mut Tally) -> Outcome {

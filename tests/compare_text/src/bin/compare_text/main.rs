@@ -1,8 +1,9 @@
 //! Compares the texts and listings of the first reader with those of the second
 //! reader and with answers worked out by hand, and fails at the first difference.
 //!
-//! `compare_text [--long] [PROGRAM]`: PROGRAM is the first reader's listing
-//! program; `--long` adds cases that take many seconds.
+//! `compare_text [--seed NUMBER] [--long] [PROGRAM]`: PROGRAM is the first
+//! reader's listing program; `--long` adds cases that take many seconds; with a
+//! seed, only what is generated is compared, and follows from it.
 
 mod first;
 mod listings;
@@ -13,6 +14,7 @@ use compare_text::{generated, hand};
 use std::path::Path;
 use std::process::ExitCode;
 use support::difference::{report, Difference, Origin};
+use support::seed::take_seed;
 use support::tally::Tally;
 
 /// What each call or kind of line must have answered in the end.
@@ -34,8 +36,8 @@ fn report_question(question: &Question, difference: &Difference) {
     report_input(difference, &Origin { kind: name, seed: *seed, part: *part, bytes: chunk });
 }
 
-/// Asks for all texts. Answers whether the readers agree.
-fn texts(long: bool, tally: &mut Tally) -> bool {
+/// Asks for the texts worked out by hand. Answers whether all agree.
+fn texts_by_hand(long: bool, tally: &mut Tally) -> bool {
     let long_ones = if long { hand::long() } else { Vec::new() };
     for question in hand::all().chain(long_ones) {
         if let Err(difference) = trial::compare(&question, tally) {
@@ -43,7 +45,12 @@ fn texts(long: bool, tally: &mut Tally) -> bool {
             return false;
         }
     }
-    match generated::for_each(&mut |question| trial::compare(question, tally)) {
+    true
+}
+
+/// Asks for the texts of generated chunks. Answers whether the readers agree.
+fn texts(seed: u64, tally: &mut Tally) -> bool {
+    match generated::for_each(seed, &mut |question| trial::compare(question, tally)) {
         Ok(()) => true,
         Err((question, difference)) => {
             report_question(&question, &difference);
@@ -52,8 +59,8 @@ fn texts(long: bool, tally: &mut Tally) -> bool {
     }
 }
 
-fn listings(program: &Path, tally: &mut Tally) -> bool {
-    match listings::compare_all(program, tally) {
+fn listings(program: &Path, seed: Option<u64>, tally: &mut Tally) -> bool {
+    match listings::compare_all(program, seed, tally) {
         Ok(()) => true,
         Err((file, difference)) => {
             let (kind, bytes) = (file.name.as_str(), file.bytes.as_slice());
@@ -63,17 +70,8 @@ fn listings(program: &Path, tally: &mut Tally) -> bool {
     }
 }
 
-fn main() -> ExitCode {
-    let mut arguments: Vec<String> = std::env::args().skip(1).collect();
-    let long = arguments.first().is_some_and(|argument| argument == "--long");
-    arguments.drain(..usize::from(long));
-    let standing = concat!(env!("CARGO_MANIFEST_DIR"), "/../../target/bin/evtx_list");
-    let program = arguments.first().map_or(standing, String::as_str);
-    let mut tally = Tally::default();
-    if !texts(long, &mut tally) || !listings(Path::new(program), &mut tally) {
-        return ExitCode::FAILURE;
-    }
-    print!("{tally}");
+/// Prints which expected numbers were never answered. Answers whether none was missing.
+fn complete(tally: &Tally) -> bool {
     let mut complete = true;
     for (call, numbers) in EXPECTED {
         let missing = tally.never_answered(call, numbers);
@@ -82,10 +80,39 @@ fn main() -> ExitCode {
             complete = false;
         }
     }
+    complete
+}
+
+/// Compares all, or what is generated from a seed. Answers whether the readers agree, and on enough.
+fn compare(program: &Path, seed: Option<u64>, long: bool) -> bool {
+    let mut tally = Tally::default();
+    let agree = (seed.is_some() || texts_by_hand(long, &mut tally))
+        && texts(seed.unwrap_or(generated::SEED), &mut tally)
+        && listings(program, seed, &mut tally);
+    if !agree {
+        return false;
+    }
+    print!("{tally}");
+    let complete = seed.is_some() || complete(&tally);
     println!("{} answers, no difference", tally.total());
-    if complete {
-        ExitCode::SUCCESS
-    } else {
-        ExitCode::FAILURE
+    complete
+}
+
+fn main() -> ExitCode {
+    let mut arguments: Vec<String> = std::env::args().skip(1).collect();
+    let seed = match take_seed(&mut arguments) {
+        Ok(seed) => seed,
+        Err(error) => {
+            println!("{error}");
+            return ExitCode::FAILURE;
+        }
+    };
+    let long = arguments.first().is_some_and(|argument| argument == "--long");
+    arguments.drain(..usize::from(long));
+    let standing = concat!(env!("CARGO_MANIFEST_DIR"), "/../../target/bin/evtx_list");
+    let program = arguments.first().map_or(standing, String::as_str);
+    match compare(Path::new(program), seed, long) {
+        true => ExitCode::SUCCESS,
+        false => ExitCode::FAILURE,
     }
 }

@@ -1,0 +1,225 @@
+//! Every call of the C interface on memory at the edge of a page that may not
+//! be touched, with the answers of the second reader.
+
+use guard_pages::calls::{self, *};
+use guard_pages::fenced::{Edge, Fenced, EDGES};
+use second_reader::binxml::{read_record, record_text};
+use second_reader::{header, record};
+use std::collections::BTreeSet;
+use std::os::unix::process::ExitStatusExt;
+use std::process::Command;
+use support::damage::*;
+use support::generate::*;
+use support::offsets::worth_asking;
+use support::random::Random;
+
+const SEED: u64 = 0x0065_7674_7800_0004;
+/// An entry of a list or bytes of an output that no answer holds.
+const KEPT: u8 = 0xf9;
+
+fn chunks(random: &mut Random) -> Vec<Vec<u8>> {
+    let mut all = Vec::new();
+    for round in 0..40 {
+        let mut chunk = sound_chunk(random);
+        match round % 5 {
+            0 => (),
+            1 => flip_bits(random, &mut chunk[DATA..], 300),
+            2 => overlaps(random, &mut chunk[DATA..]),
+            3 => put(&mut chunk, DATA, &dense_bytes(random, CHUNK - DATA)),
+            // A record whose end is the chunk's, or that reaches out of it.
+            _ => frame(&mut chunk, CHUNK - 28 - round % 3, 28 + round % 4),
+        }
+        all.push(chunk);
+    }
+    all
+}
+
+/// Inputs for all calls but the text: headers, chunks, and loose bytes of every
+/// short length and of some odd longer ones.
+fn inputs() -> Vec<Vec<u8>> {
+    let random = &mut Random::new(SEED);
+    let mut all = chunks(random);
+    for _ in 0..30 {
+        let mut header = sound_file_header(random);
+        wrong_file_field(random, &mut header);
+        all.push(header);
+    }
+    for length in [0, 1, 119, 127, 128, 4_095, 4_097, 65_535, 65_537] {
+        let mut bytes = sound_file_header(random);
+        bytes.resize(length, 0);
+        all.push(bytes);
+    }
+    for length in 0..100 {
+        let bytes = record(random, 28 + length % 9).repeat(4);
+        all.push(bytes[..length].to_vec());
+    }
+    for _ in 0..60 {
+        let length = random.below(9_000);
+        all.push(dense_bytes(random, length));
+    }
+    all
+}
+
+/// At most `most` of the offsets worth asking for.
+fn some_offsets(bytes: &[u8], most: usize) -> Vec<u64> {
+    let random = &mut Random::new(bytes.len() as u64);
+    let mut offsets: Vec<u64> = worth_asking(bytes, SEED).into_iter().collect();
+    while offsets.len() > most {
+        offsets = offsets.chunks(2).map(|pair| random.pick(pair)).collect();
+    }
+    offsets
+}
+
+/// Hands each input at both edges to `ask`, and looks at it afterwards.
+fn each_input(ask: fn(&[u8], &Fenced)) {
+    for bytes in inputs() {
+        for edge in EDGES {
+            let input = Fenced::input(&bytes, edge);
+            ask(&bytes, &input);
+            assert!(input.now() == bytes && input.rest_kept());
+        }
+    }
+}
+
+#[test]
+fn header_checks() {
+    each_input(|bytes, input| {
+        let answer = calls::check(evtx_check_file_header, input);
+        assert_eq!(answer, (header::check_file_header(bytes), 0));
+        let answer = calls::check(evtx_check_chunk, input);
+        assert_eq!(answer, (header::check_chunk(bytes), 0));
+    });
+}
+
+/// One search with each room around the count of records, and the list at both edges.
+fn search(expected: &dyn Fn(usize) -> Result<Vec<u32>, u32>, run: &dyn Fn(&Fenced) -> (u32, u64)) {
+    let count = expected(usize::MAX).map_or(0, |offsets| offsets.len());
+    for room in BTreeSet::from([0, count.saturating_sub(1), count, count + 1, count + 77]) {
+        for edge in EDGES {
+            let list = Fenced::new(&vec![KEPT; 4 * room], edge);
+            let (number, offsets) = match expected(room) {
+                Ok(offsets) => (0, offsets),
+                Err(number) => (number, Vec::new()),
+            };
+            assert_eq!(run(&list), (number, offsets.len() as u64));
+            let front: Vec<u8> = offsets.iter().flat_map(|offset| offset.to_le_bytes()).collect();
+            assert!(holds(&list, &front));
+        }
+    }
+}
+
+/// The memory holds `front` at its front, and all else is as it was.
+fn holds(memory: &Fenced, front: &[u8]) -> bool {
+    let (written, kept) = memory.now().split_at(front.len());
+    written == front && kept.iter().all(|byte| *byte == KEPT) && memory.rest_kept()
+}
+
+#[test]
+fn searches() {
+    each_input(|bytes, input| {
+        let run = |list: &Fenced| calls::search(evtx_search_chunk, input, list);
+        search(&|room| record::search_chunk(bytes, room), &run);
+        let run = |list: &Fenced| calls::search(evtx_search_bytes, input, list);
+        search(&|room| record::search_bytes(bytes, room), &run);
+    });
+}
+
+fn next_answer(found: Result<u64, u32>) -> (u32, u64) {
+    match found {
+        Ok(offset) => (0, offset),
+        Err(number) => (number, 0),
+    }
+}
+
+#[test]
+fn next_records() {
+    each_input(|bytes, input| {
+        for from in some_offsets(bytes, 60) {
+            let found = calls::next(evtx_next_in_chunk, input, from);
+            assert_eq!(found, next_answer(record::next_in_chunk(bytes, from)));
+            let found = calls::next(evtx_next_in_bytes, input, from);
+            assert_eq!(found, next_answer(record::next_in_bytes(bytes, from)));
+        }
+    });
+}
+
+#[test]
+fn stretches_and_fields() {
+    each_input(|bytes, input| {
+        for offset in some_offsets(bytes, 120) {
+            let expected = match record::record_stretch(bytes, offset) {
+                Ok(found) => (0, [found.offset, found.length]),
+                Err(number) => (number, [0, 0]),
+            };
+            assert_eq!(calls::ask(evtx_record_stretch, input, offset), expected);
+            let expected = match record::record_fields(bytes, offset) {
+                Ok(found) => (0, [found.record_number, found.written_time]),
+                Err(number) => (number, [0, 0]),
+            };
+            assert_eq!(calls::ask(evtx_record_fields, input, offset), expected);
+        }
+    });
+}
+
+fn text(chunk: &[u8], input: &Fenced, offset: u64, room: usize, edge: Edge) {
+    let out = Fenced::new(&vec![KEPT; room], edge);
+    let (number, text) = match record_text(chunk, offset, room as u64) {
+        Ok(text) => (0, text),
+        Err(refusal) => (refusal.number, Vec::new()),
+    };
+    assert_eq!(calls::record_text(input, offset, &out), (number, text.len() as u64));
+    assert!(holds(&out, &text) && input.now() == chunk && input.rest_kept());
+}
+
+/// Rooms that are none, odd, and around the length of the text.
+fn rooms(chunk: &[u8], offset: u64) -> BTreeSet<usize> {
+    let mut rooms = BTreeSet::from([0, 1, 777, 65_536]);
+    if let Ok(length) = read_record(chunk, offset, 0).length {
+        let length = (length as usize).min(1 << 20);
+        rooms.extend([length.saturating_sub(1), length, length + 1]);
+    }
+    rooms
+}
+
+#[test]
+fn texts() {
+    let mut turn = 0;
+    let mut asked = 0;
+    let outcome = compare_text::generated::for_each(SEED, &mut |question| {
+        turn += 1;
+        if turn % 50 != 0 {
+            return Ok::<(), ()>(());
+        }
+        for edge in EDGES {
+            let input = Fenced::input(&question.chunk, edge);
+            for offset in question.offsets.iter().take(12) {
+                for room in rooms(&question.chunk, *offset) {
+                    for edge in EDGES {
+                        text(&question.chunk, &input, *offset, room, edge);
+                    }
+                }
+            }
+        }
+        asked += 1;
+        Ok(())
+    });
+    assert!(outcome.is_ok() && asked > 300, "{asked} chunks of {turn}");
+}
+
+#[test]
+#[ignore = "it ends the program: a_byte_too_many_is_fatal starts it"]
+fn told_a_byte_too_many() {
+    let input = Fenced::input(&[0; 4_096], Edge::Back);
+    // Not safe, which is what is tried: the length is one more than is lent.
+    unsafe { evtx_search_bytes(input.pointer(), input.len() + 1, [0].as_mut_ptr(), 1) };
+}
+
+/// A call that reads one byte beyond what is lent is seen.
+#[test]
+fn a_byte_too_many_is_fatal() {
+    const SEGMENTATION_FAULT: i32 = 11;
+    let program = std::env::current_exe().expect("the path of this program");
+    let arguments = ["--exact", "told_a_byte_too_many", "--ignored"];
+    let outcome = Command::new(program).args(arguments).output().expect("a run of this program");
+    assert_eq!(outcome.status.signal(), Some(SEGMENTATION_FAULT));
+}
