@@ -17,10 +17,10 @@ use Rattle.calendar.specs.declared.Time.the-variants.{Done, Wrong}
 abbrev pub dateIn : Date → Dates.Date
 dateIn d = record { year = d .year; month = d .month; day = d .day }
 
--- the answer to a text, or to none
-abbrev pub timeOf : ℕ → Option Text → Time
-timeOf at none = Wrong
-timeOf at (some t) = Done (adv at (length t))
+-- the answer to a text, or to none, in a memory of so many bytes
+abbrev pub timeOf : ℕ → ℕ → Option Text → Time
+timeOf room at none = Wrong
+timeOf room at (some t) = Done (adv room at (length t))
 
 -- what the memory holds then
 abbrev pub leaves : List ℕ → ℕ → Option Text → List ℕ
@@ -28,7 +28,7 @@ leaves out at none = out
 leaves out at (some t) = emit out at t
 
 pub record PutTime (o : Option Text) (out : List ℕ) (at : ℕ) (out′ : List ℕ) (r : Time) : Type 0 where
-  pub answer : r ≡ timeOf at o
+  pub answer : r ≡ timeOf (length out) at o
   pub bytes : out′ ≡ leaves out at o
 
 -- the number that goes with an answer

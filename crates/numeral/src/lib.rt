@@ -153,7 +153,7 @@ pub fn put_pairs(out: &mut [u8], at: usize, src: &[u8]) -> usize
     ensures { λ r. ⌜ Wrote (now (out .entry)) at (hexPairs (now (src .entry))) (now (out .exit)) r ⌝ }
 {
     if out.len() <= at {
-        return output::skip(at, 2 * src.len());
+        return output::skip(out.len(), at, 2 * src.len());
     }
     let table = DIGITS[1];
     let mut place = at;

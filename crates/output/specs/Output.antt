@@ -1,12 +1,13 @@
 -- What a call leaves that writes text into memory that may be too small: the bytes, and the next place.
 --     Wrote out at text out′ at′ : text was written into out from place `at` on; out′ and at′ are what it left
 --     wrote-more : one text and then another are the two as one
---     wrote-fits : text that fits stands in its place, with what was there before it and after it
--- The place stops at 2 ^ 63, which no slice reaches, so that no caller owes a bound on it.
+--     emit-fits : text that fits stands in its place, with what was there before it and after it
+-- The place stops one byte behind the memory: more is not needed to know that the text did not fit, and no caller owes a bound on it. A run
+-- without memory is there to count, and its place stops at 2 ^ 63, which no slice reaches.
 use mathlib.Core.Path.{_≡_, refl, ap, _∙_, sym}
 use mathlib.Core.Bool.{Bool, true, false}
 use mathlib.Core.List.{List, [], _∷_, _++_}
-use Prim.Native.Nat.{ℕ, suc, _+_, _*_, _≤_, _<_, _^_, min, max}
+use Prim.Native.Nat.{ℕ, zero, suc, _+_, _*_, _≤_, _<_, _^_, min, max}
 use native.Mathlib.Nat.{add-zero, add-suc, suc-add}
 use native.Mathlib.Omega.{arith}
 use borrow.Author.Tests.{leb-true, leb-false}
@@ -18,13 +19,18 @@ use lib.Seq.{sets, length-sets, sets-eq, set-out}
 unfoldable pub emit : List ℕ → ℕ → List ℕ → List ℕ
 emit out at text = sets out at text
 
+-- where the place stops in a memory of so many bytes
+unfoldable pub top : ℕ → ℕ
+top zero = 2 ^ 63
+top (suc n) = min (suc n + 1) (2 ^ 63)
+
 -- the place after n more bytes
-unfoldable pub adv : ℕ → ℕ → ℕ
-adv at n = max at (min (at + n) (2 ^ 63))
+unfoldable pub adv : ℕ → ℕ → ℕ → ℕ
+adv room at n = max at (min (at + n) (top room))
 
 pub record Wrote (out : List ℕ) (at : ℕ) (text : List ℕ) (out′ : List ℕ) (at′ : ℕ) : Type 0 where
   pub bytes : out′ ≡ emit out at text
-  pub count : at′ ≡ adv at (length text)
+  pub count : at′ ≡ adv (length out) at (length text)
 
 pub length-emit : (out : List ℕ) (at : ℕ) (text : List ℕ) → length (emit out at text) ≡ length out
 unfolding emit
@@ -40,61 +46,100 @@ unfolding emit
 emit-past out at [] h = refl
 emit-past out at (x ∷ text) h = rw (set-out out at x h) (emit-past out (suc at) text (omega arith))
 
-pub adv-none : (at : ℕ) → adv at 0 ≡ at
-unfolding adv
-adv-none at = omega arith
+pub top-none : top 0 ≡ 2 ^ 63
+unfolding top
+top-none = refl
 
-pub adv-more : (at m n : ℕ) → adv (adv at m) n ≡ adv at (m + n)
-unfolding adv
-adv-more at m n = omega arith
+pub top-some : (room : ℕ) → 0 < room → room < 2 ^ 63 → top room ≡ room + 1
+unfolding top
+top-some zero h g = absurd (omega arith)
+top-some (suc n) h g = omega arith
 
-pub adv-low : (at n : ℕ) → at + n ≤ 2 ^ 63 → adv at n ≡ at + n
-unfolding adv
-adv-low at n h = omega arith
+pub top-high : (room : ℕ) → 2 ^ 63 ≤ room → top room ≡ 2 ^ 63
+unfolding top
+top-high zero h = absurd (omega arith)
+top-high (suc n) h = omega arith
 
-pub adv-high : (at n : ℕ) → 2 ^ 63 ≤ at → adv at n ≡ at
-unfolding adv
-adv-high at n h = omega arith
+pub top-covers : (room : ℕ) → room < 2 ^ 63 → room < top room
+unfolding top
+top-covers zero h = omega arith
+top-covers (suc n) h = omega arith
 
-pub adv-end : (at n : ℕ) → at ≤ 2 ^ 63 → 2 ^ 63 ≤ at + n → adv at n ≡ 2 ^ 63
-unfolding adv
-adv-end at n h g = omega arith
+module _ (room at : ℕ) where
+  pub adv-none : adv room at 0 ≡ at
+  unfolding adv
+  adv-none = omega arith
 
-emit-adv : (out : List ℕ) (at : ℕ) (s t : List ℕ) → length out < 2 ^ 63 → emit (emit out at s) (adv at (length s)) t ≡ emit out at (s ++ t)
+  pub adv-more : (m n : ℕ) → adv room (adv room at m) n ≡ adv room at (m + n)
+  unfolding adv
+  adv-more m n = omega arith
+
+  pub adv-low : (n : ℕ) → at + n ≤ top room → adv room at n ≡ at + n
+  unfolding adv
+  adv-low n h = omega arith
+
+  pub adv-high : (n : ℕ) → top room ≤ at → adv room at n ≡ at
+  unfolding adv
+  adv-high n h = omega arith
+
+  pub adv-end : (n : ℕ) → at ≤ top room → top room ≤ at + n → adv room at n ≡ top room
+  unfolding adv
+  adv-end n h g = omega arith
+
+  -- what fits is counted whole, and what is counted within the room fits
+  pub adv-fits : (n : ℕ) → room < 2 ^ 63 → at + n ≤ room → adv room at n ≡ at + n
+  adv-fits n h g = let c = top-covers room h in adv-low n (omega arith)
+
+  pub adv-within : (n : ℕ) → room < 2 ^ 63 → adv room at n ≤ room → adv room at n ≡ at + n
+  unfolding adv
+  adv-within n h g = let c = top-covers room h in omega arith
+
+  pub adv-short : (n : ℕ) → adv room at n ≤ at + n
+  unfolding adv
+  adv-short n = omega arith
+
+emit-adv : (out : List ℕ) (at : ℕ) (s t : List ℕ) → length out < 2 ^ 63 → emit (emit out at s) (adv (length out) at (length s)) t ≡ emit out at (s ++ t)
 unfolding emit adv
-emit-adv out at s t room = go (leb (at + length s) (2 ^ 63)) refl
+emit-adv out at s t room = go (leb (at + length s) (top (length out))) refl
   where
-    go : (b : Bool) → leb (at + length s) (2 ^ 63) ≡ b → emit (emit out at s) (adv at (length s)) t ≡ emit out at (s ++ t)
-    go true e = rw (adv-low at (length s) (leb-true (at + length s) (2 ^ 63) e)) (sets-more s t out at)
+    go : (b : Bool) → leb (at + length s) (top (length out)) ≡ b → emit (emit out at s) (adv (length out) at (length s)) t ≡ emit out at (s ++ t)
+    go true e = rw (adv-low (length out) at (length s) (leb-true (at + length s) (top (length out)) e)) (sets-more s t out at)
     go false e =
-        let h = leb-false (at + length s) (2 ^ 63) e in
+        let h = leb-false (at + length s) (top (length out)) e in
         let l = length-emit out at s in
-        emit-past (emit out at s) (adv at (length s)) t (omega arith)
+        let c = top-covers (length out) room in
+        emit-past (emit out at s) (adv (length out) at (length s)) t (omega arith)
         ∙ sym (emit-past (emit out at s) (at + length s) t (omega arith))
         ∙ sets-more s t out at
 
 pub wrote-nil : (out : List ℕ) (at : ℕ) → Wrote out at [] out at
 unfolding emit
-wrote-nil out at = record { bytes = refl; count = sym (adv-none at) }
+wrote-nil out at = record { bytes = refl; count = sym (adv-none (length out) at) }
+
+pub wrote-length : {out out′ : List ℕ} {at at′ : ℕ} {s : List ℕ} → Wrote out at s out′ at′ → length out′ ≡ length out
+wrote-length {out} {out′} {at} {at′} {s} w = ap length (w .bytes) ∙ length-emit out at s
 
 -- one text, and then another
 pub wrote-more : {out out′ out″ : List ℕ} {at at′ at″ : ℕ} {s t : List ℕ} → length out < 2 ^ 63 → Wrote out at s out′ at′ → Wrote out′ at′ t out″ at″ → Wrote out at (s ++ t) out″ at″
 wrote-more {out} {out′} {out″} {at} {at′} {at″} {s} {t} room v w =
     record {
       bytes = w .bytes ∙ rw (v .bytes, v .count) (emit-adv out at s t room);
-      count = w .count ∙ rw (v .count, length-append s t) (adv-more at (length s) (length t));
+      count = w .count ∙ rw (wrote-length v, v .count, length-append s t) (adv-more (length out) at (length s) (length t));
     }
-
-pub wrote-length : {out out′ : List ℕ} {at at′ : ℕ} {s : List ℕ} → Wrote out at s out′ at′ → length out′ ≡ length out
-wrote-length {out} {out′} {at} {at′} {s} w = ap length (w .bytes) ∙ length-emit out at s
 
 -- a byte that fits, and text that starts past the end
 pub wrote-in : (out : List ℕ) (at b : ℕ) → at < length out → length out * 1 < 2 ^ 63 → Wrote out at (b ∷ []) (set out at b) (at + 1)
 unfolding emit
-wrote-in out at b h room = record { bytes = refl; count = sym (adv-low at 1 (omega arith)) }
+wrote-in out at b h room = record { bytes = refl; count = sym (adv-fits (length out) at 1 (omega arith) (omega arith)) }
 
-pub wrote-past : (out : List ℕ) (at : ℕ) (text : List ℕ) (n : ℕ) → length out ≤ at → n ≡ adv at (length text) → Wrote out at text out n
+pub wrote-past : (out : List ℕ) (at : ℕ) (text : List ℕ) (n : ℕ) → length out ≤ at → n ≡ adv (length out) at (length text) → Wrote out at text out n
 wrote-past out at text n h e = record { bytes = sym (emit-past out at text h); count = e }
+
+-- text from a place where it stops: nothing of it is stored or counted
+pub wrote-stopped : (out : List ℕ) (at : ℕ) (text : List ℕ) → length out * 1 < 2 ^ 63 → top (length out) ≤ at → Wrote out at text out at
+wrote-stopped out at text room h =
+    let c = top-covers (length out) (omega arith) in
+    wrote-past out at text at (omega arith) (sym (adv-high (length out) at (length text) h))
 
 -- text that fits stands in its place
 pub emit-fits : (out : List ℕ) (at : ℕ) (text : List ℕ) → at + length text ≤ length out → emit out at text ≡ take at out ++ text ++ drop (at + length text) out

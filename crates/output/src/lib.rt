@@ -1,10 +1,45 @@
-// Text into lent memory that may be too small: a byte is stored only where it fits, and the place counts on all the same.
-// A run with an empty part of the memory, `&mut out[..0]`, only counts.
+// Text into lent memory that may be too small: a byte is stored only where it fits, and the place counts on by one byte more than there is
+// room for. A run with an empty part of the memory, `&mut out[..0]`, only counts.
 ghost use mathlib.Core.Path.{_≡_};
 ghost use mathlib.Core.List.{[], _∷_};
-ghost use Rattle.output.specs.Output.{Wrote, adv};
+ghost use lib.Dec.{leb};
+ghost use Rattle.output.specs.Output.{Wrote, top as topOf, adv};
 
-// The byte b at place `at`, and the next place. The place stops at 2^63, which no slice reaches.
+// The place that a count stops at, in a memory of so many bytes: one more than these, or 2^63 where there are none.
+fn top(room: usize) -> usize
+    ensures { λ r. ⌜ r ≡ topOf room ⌝ }
+{
+    if room == 0 {
+        return 9223372036854775808;
+    }
+    if room < 9223372036854775808 {
+        return room + 1;
+    }
+    9223372036854775808
+}
+
+// Whether the place has come to where it stops, so that nothing more is stored or counted.
+pub fn stopped(room: usize, at: usize) -> bool
+    ensures { λ r. ⌜ r ≡ leb (topOf room) at ⌝ }
+{
+    top(room) <= at
+}
+
+// The place after n more bytes, of which none is stored.
+pub fn skip(room: usize, at: usize, n: usize) -> usize
+    ensures { λ r. ⌜ r ≡ adv room at n ⌝ }
+{
+    let end = top(room);
+    if end <= at {
+        return at;
+    }
+    if n <= end - at {
+        return at + n;
+    }
+    end
+}
+
+// The byte b at place `at`, and the next place.
 pub fn put(out: &mut [u8], at: usize, b: u8) -> usize
     ensures { λ r. ⌜ Wrote (now (out .entry)) at (b ∷ []) (now (out .exit)) r ⌝ }
 {
@@ -12,20 +47,7 @@ pub fn put(out: &mut [u8], at: usize, b: u8) -> usize
         out[at] = b;
         return at + 1;
     }
-    if at < 9223372036854775808 { at + 1 } else { at }
-}
-
-// The place after n more bytes, of which none is stored.
-pub fn skip(at: usize, n: usize) -> usize
-    ensures { λ r. ⌜ r ≡ adv at n ⌝ }
-{
-    if 9223372036854775808 <= at {
-        return at;
-    }
-    if n <= 9223372036854775808 - at {
-        return at + n;
-    }
-    9223372036854775808
+    skip(out.len(), at, 1)
 }
 
 // The bytes of src as they are.

@@ -193,12 +193,11 @@ fn plain(table: &[u8; 128], carry: u32, u: u32) -> bool
     table[u as usize] == b'1'
 }
 
-// The string in the bytes of src; of an odd count of bytes the last is not read. From 2^63 on the place stays, and the string is not
-// looked at.
+// The string in the bytes of src; of an odd count of bytes the last is not read. Where the place has stopped, the string is not looked at.
 pub fn put_string(out: &mut [u8], at: usize, src: &[u8]) -> usize
     ensures { λ r. ⌜ Wrote (now (out .entry)) at (stringText (units (now (src .entry)))) (now (out .exit)) r ⌝ }
 {
-    if 9223372036854775808 <= at {
+    if output::stopped(out.len(), at) {
         return at;
     }
     // `1` for each character of ASCII that is written as itself

@@ -7,7 +7,7 @@ use native.Mathlib.Nat.{zero-add}
 use native.Mathlib.Omega.{arith}
 use borrow.Author.Tests.{le-leb, lt-leb}
 use lib.ListN.{length, drop}
-use Rattle.output.specs.Output.{adv, emit-fits}
+use Rattle.output.specs.Output.{adv, top-none, emit-fits}
 use Rattle.rules.specs.Bytes.{Text}
 use Rattle.rules.specs.Answers.{Outcome, refusal, wrongValue, roomTooSmall, inRoom, numberOf, listOf}
 use Rattle.rules.specs.Values.{Written, written, wrongType, wrongSize, wrongContent}
@@ -34,7 +34,7 @@ pub record Told (w : Written) (out out′ : List ℕ) (r : EvtxValue) : Type 0 w
 abbrev pub answered : ℕ → ℕ → EvtxValue
 answered n l = record { number = n; length = l }
 
-pub told-refused : (w : Written) (out : List ℕ) (r : Put) → r ≡ answerOf 0 w → numberIn r ≡ wrongValue → Told w out out (answered wrongValue 0)
+pub told-refused : (w : Written) (out : List ℕ) (r : Put) → r ≡ answerOf 0 0 w → numberIn r ≡ wrongValue → Told w out out (answered wrongValue 0)
 told-refused (written t) out r e n = absurd (omega (arith, sym (ap numberIn e) ∙ n))
 told-refused wrongType out r e n = record { answer = refl; bytes = refl }
 told-refused wrongSize out r e n = record { answer = refl; bytes = refl }
@@ -46,23 +46,25 @@ empty [] h = refl
 empty (x ∷ o) h = absurd (omega arith)
 
 -- the first run's count
-counted : (t : Text) {at : ℕ} → Done at ≡ answerOf 0 (written t) → at ≡ adv 0 (length t)
+counted : (t : Text) {at : ℕ} → Done at ≡ answerOf 0 0 (written t) → at ≡ adv 0 0 (length t)
 counted t e = cc
 
-pub told-long : (w : Written) (out : List ℕ) (at : ℕ) → Done at ≡ answerOf 0 w → length out < at → Told w out out (answered roomTooSmall 0)
+pub told-long : (w : Written) (out : List ℕ) (at : ℕ) → Done at ≡ answerOf 0 0 w → length out < at → Told w out out (answered roomTooSmall 0)
 unfolding adv
 told-long (written t) out at e h =
     let c = counted t e in
+    let free = top-none in
     let long = lt-leb (length t) (length out) (omega arith) in
     record { answer = rw long; bytes = rw long }
 told-long wrongType out at e h = absurd (let z = ap numberIn e in omega arith)
 told-long wrongSize out at e h = absurd (let z = ap numberIn e in omega arith)
 told-long wrongContent out at e h = absurd (let z = ap numberIn e in omega arith)
 
-pub told-fits : (w : Written) (out out′ : List ℕ) (at : ℕ) (r : Put) → Done at ≡ answerOf 0 w → at ≤ length out → length out * 1 < 2 ^ 63 → PutValue w out 0 out′ r → Told w out out′ (answered 0 at)
+pub told-fits : (w : Written) (out out′ : List ℕ) (at : ℕ) (r : Put) → Done at ≡ answerOf 0 0 w → at ≤ length out → length out * 1 < 2 ^ 63 → PutValue w out 0 out′ r → Told w out out′ (answered 0 at)
 unfolding adv
 told-fits (written t) out out′ at r e h room p =
     let c = counted t e in
+    let free = top-none in
     let n : at ≡ length t = omega arith in
     let fits = le-leb (length t) (length out) (omega arith) in
     record { answer = rw (fits, n); bytes = rw fits (p .bytes ∙ emit-fits out 0 t (omega arith) ∙ rw zero-add) }

@@ -26,7 +26,7 @@ skip-requires c κs = search needs
 returns : tie.Need-returns Inv-loop μ-loop
 returns c =
     let s = now (c .before .before .before .before .args .src) in
-    wrote-past _ _ (hexPairs s) _ (search needs) (c .skip .ensures ∙ ap (adv (c .before .before .before .before .args .at)) (sym (pairs-length s)))
+    wrote-past _ _ (hexPairs s) _ (search needs) (c .skip .ensures ∙ ap (adv _ (c .before .before .before .before .args .at)) (sym (pairs-length s)))
 
 array-copy-out-table : tie.Need-array-copy-out-table Inv-loop μ-loop
 array-copy-out-table c = search needs

@@ -1,6 +1,5 @@
 -- `put` meets its contract: a byte within the memory is stored, and past its end only the place moves.
-use mathlib.Core.Path.{sym}
-use Rattle.output.specs.Output.{wrote-in, wrote-past, adv-low, adv-high}
+use Rattle.output.specs.Output.{wrote-in, wrote-past}
 use borrow.Author.Needs.{needs}
 use Rattle.output.proofs.put.Statement.{statement}
 use Rattle.output.proofs.put.Tie as tie
@@ -17,16 +16,12 @@ same-length c = search needs
 returns : tie.Need-returns
 returns c = wrote-in _ _ _ (search needs) (search needs)
 
-add-result-2 : tie.Need-add-result-2
-add-result-2 c = search needs
+skip-requires : tie.Need-skip-requires
+skip-requires c κs = search needs
 
 returns-2 : tie.Need-returns-2
-returns-2 c = wrote-past _ _ _ _ (search needs) (sym (adv-low _ 1 (search needs)))
-
-returns-3 : tie.Need-returns-3
-returns-3 c = wrote-past _ _ _ _ (search needs) (sym (adv-high _ 1 (search needs)))
+returns-2 c = wrote-past _ _ _ _ (search needs) (c .skip .ensures)
 
 pub put-spec : {M : Type 1} → statement M
 put-spec =
-    tie.close
-    (tie.spec slice-write-out add-result same-length returns add-result-2 returns-2 returns-3)
+    tie.close (tie.spec slice-write-out add-result same-length returns skip-requires returns-2)

@@ -1,0 +1,15 @@
+-- `stopped` meets its contract: the test of the code is the definition's.
+use mathlib.Core.Path.{ap}
+use lib.Dec.{leb}
+use borrow.Author.Needs.{needs}
+use Rattle.output.proofs.stopped.Statement.{statement}
+use Rattle.output.proofs.stopped.Tie as tie
+
+top-requires : tie.Need-top-requires
+top-requires c κs = search needs
+
+returns : tie.Need-returns
+returns c = rw (c .top .ensures)
+
+pub stopped-spec : {M : Type 1} → statement M
+stopped-spec = tie.close (tie.spec top-requires returns)
