@@ -1,4 +1,6 @@
 pub mod Linear
 pub mod Table
-pub mod Passing
 pub mod Parts
+pub mod Passing
+pub mod Words
+pub mod Rows

@@ -101,13 +101,13 @@ bit-linear a b = go (a % 2) (b % 2) refl refl
     go zero (suc (suc q)) ea eb = let h = mod-lt b {m = 2} (omega arith) in absurd (omega arith)
     go (suc zero) (suc (suc q)) ea eb = let h = mod-lt b {m = 2} (omega arith) in absurd (omega arith)
 
-bits-linear : (k a b : ℕ) → crcBits k (bitXor a b) ≡ bitXor (crcBits k a) (crcBits k b)
+pub bits-linear : (k a b : ℕ) → crcBits k (bitXor a b) ≡ bitXor (crcBits k a) (crcBits k b)
 unfolding crcBits
 bits-linear zero a b = refl
 bits-linear (suc k) a b = ap (crcBits k) (bit-linear a b) ∙ bits-linear k (crcBit a) (crcBit b)
 
 -- zero bits that go out leave what lies above them
-bits-shifted : (k y : ℕ) → crcBits k (y * 2 ^ k) ≡ y
+pub bits-shifted : (k y : ℕ) → crcBits k (y * 2 ^ k) ≡ y
 unfolding crcBits
 bits-shifted zero y = omega arith
 bits-shifted (suc k) y = ap (crcBits k) (bit-even (y * 2 ^ suc k) (shifted-even y k) ∙ shifted-half y k) ∙ bits-shifted k y

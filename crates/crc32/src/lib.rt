@@ -1,4 +1,4 @@
-// CRC-32 by a table: an update of a state by a part of the bytes.
+// CRC-32 by a table: an update of a state by a part of the bytes, 16 bytes at a time where the part is long.
 ghost use mathlib.Core.Path.{_≡_};
 ghost use mathlib.Core.Bool.{true};
 ghost use Prim.Native.Nat.{_%_};
@@ -7,6 +7,7 @@ ghost use lib.Bits.{bitXor};
 ghost use Rattle.crc32.specs.Table.{right};
 ghost use Rattle.rules.specs.Checksum.{allOnes, crcBits, crcByte, crcOver};
 
+mod rows;
 mod table;
 
 use table::TABLE;
@@ -20,7 +21,7 @@ fn entry(table: &[u32; 256], x: u32) -> u32
 }
 
 // The state after one byte.
-fn step(table: &[u32; 256], state: u32, b: u8) -> u32
+pub(crate) fn step(table: &[u32; 256], state: u32, b: u8) -> u32
     requires { ⌜ (right 0 (now table) ≡ true) × (length (now table) ≡ 256) ⌝ }
     ensures { λ r. ⌜ r ≡ crcByte state b ⌝ }
 {
@@ -34,8 +35,9 @@ pub fn update(state: u32, part: &[u8]) -> u32
     ensures { λ r. ⌜ r ≡ crcOver state (now (part .entry)) ⌝ }
 {
     let table = TABLE;
-    let mut c = state;
-    let mut i = 0;
+    let begun = rows::begin(&table, state, part);
+    let mut c = begun.state;
+    let mut i = begun.at;
     while i < part.len() {
         c = step(&table, c, part[i]);
         i += 1;

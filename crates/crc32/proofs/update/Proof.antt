@@ -1,9 +1,10 @@
--- The loop goes through the part byte by byte; its invariant is `Passing`. The table is right by one computed test over all its entries.
+-- The loop goes byte by byte through what `begin` has left of the part; its invariant is `Passing`. The table is right by one computed test
+-- over all its entries.
 use mathlib.Core.Path.{refl}
 use Prim.Native.Nat.{_-_, _≤_}
 use lib.ListN.{length}
 use Rattle.crc32.specs.Table.{right}
-use Rattle.crc32.specs.Passing.{Passing, pass-start, pass-step, pass-end}
+use Rattle.crc32.specs.Passing.{Passing, pass-step, pass-end}
 use borrow.Author.Needs.{needs}
 use Rattle.crc32.proofs.update.Statement.{statement}
 use Rattle.crc32.proofs.update.Tie as tie
@@ -14,8 +15,12 @@ Inv-loop state part table c₀ i₀ c i = (i ≤ length part) × Passing state p
 abbrev μ-loop : tie.MeasureT-loop
 μ-loop state part table c₀ i₀ c i = length part - i
 
+begin-requires : tie.Need-begin-requires Inv-loop μ-loop
+unfolding right
+begin-requires c κs = (refl, refl)
+
 loop-holds : tie.Need-loop-holds Inv-loop μ-loop
-loop-holds c = (search needs, pass-start)
+loop-holds c = search needs
 
 shared-slice-read-step : tie.Need-shared-slice-read-step Inv-loop μ-loop
 shared-slice-read-step c = search needs
@@ -42,6 +47,7 @@ update-spec =
     (tie.spec
     Inv-loop
     μ-loop
+    begin-requires
     loop-holds
     shared-slice-read-step
     step-requires
