@@ -2,16 +2,12 @@
 --     by-table : crcBits 8 x ≡ bitXor (crcBits 8 (x % 256)) (x / 256)
 -- The idea: one bit's step is linear, crcBit (a xor b) is crcBit a xor crcBit b, and x is its low byte xor what lies above it.
 use mathlib.Core.Path.{_≡_, refl, ap, ap₂, sym, _∙_}
-use mathlib.Core.Bool.{Bool, true, false}
-use mathlib.Core.List.{List, [], _∷_}
-use Prim.Native.Nat.{ℕ, zero, suc, _+_, _*_, _^_, _/_, _%_, _≤_, _<_}
+use Prim.Native.Nat.{ℕ, zero, suc, _+_, _*_, _^_, _/_, _%_, _<_}
 use native.Mathlib.Nat.{div-add-mod', mod-lt}
 use native.Mathlib.Omega.{arith}
-use borrow.Author.Tests.{eq-eqb, ne-eqb, eqb-true, eqb-false}
+use borrow.Author.Tests.{eq-eqb, ne-eqb}
 use lib.Arith.{bin-ind}
 use lib.Bits.{differ, bitXor, xor-step, xor-zero-r, xor-comm, xor-self, xor-shifted, shifted-half, shifted-even}
-use lib.Dec.{eqb}
-use Rattle.rules.specs.Bytes.{if_then_else_}
 use Rattle.rules.specs.Checksum.{crcBit, crcBits}
 
 differ-assoc : (p q r : ℕ) → p < 2 → q < 2 → r < 2 → differ (differ p q) r ≡ differ p (differ q r)

@@ -5,7 +5,7 @@
 --     date-real, there-and-back : d < 3_067_671 → Real (dateOf d), and dayNumber (dateOf d) ≡ d
 --     back-and-there : Real d → dateOf (dayNumber d) ≡ d
 -- The idea: counting off years leaves a day of a year; in a row that rises, as many months have begun as stand up to that day.
-use mathlib.Core.Path.{_≡_, refl, ap, ap₂, sym, _∙_, subst}
+use mathlib.Core.Path.{_≡_, refl, ap, _∙_}
 use mathlib.Core.Bool.{Bool, true, false, _&&_, _||_, not}
 use mathlib.Core.List.{List, [], _∷_}
 use mathlib.Core.Logic.{_↔_, _⊎_, inl, inr}
@@ -13,9 +13,9 @@ use Prim.Native.Nat.{ℕ, zero, suc, _+_, _*_, _-_, _/_, _%_, _≤_, _<_}
 use native.Mathlib.Nat.{add-assoc}
 use native.Mathlib.Omega.{arith}
 use borrow.Author.Tests.{leb-true, leb-false, ltb-true, ltb-false, eqb-true, eqb-false, le-leb, lt-leb, lt-ltb, le-ltb}
-use lib.Dec.{leb, ltb, eqb, T}
+use lib.Dec.{leb, ltb, eqb}
 use lib.ListN.{length, getD}
-use Rattle.rules.specs.Bytes.{if_then_else_, same}
+use Rattle.rules.specs.Bytes.{same}
 use Rattle.rules.specs.Dates.{leap, commonRow, leapRow, row, daysBefore, daysOfYear, daysOfMonth, Date, begun, inYear, dateFrom, dateOf}
 use Rattle.laws.specs.Tests.{both}
 

@@ -1,17 +1,16 @@
 -- Every FileTime up to the limit gives 28 bytes whose date is the day counted from 1601 and whose clock is what is left of the day.
 --     filetime-text : n ≤ 2_650_467_743_999_999_999 → FileTimeText n (fileTimeText n)
 -- Digits are read back from their places in the text; the date's law is that of Calendar.
-use mathlib.Core.Path.{_≡_, refl, ap, sym, _∙_}
-use mathlib.Core.List.{List, [], _∷_, _++_}
-use mathlib.Core.Option.{Option, some}
-use Prim.Native.Nat.{ℕ, _+_, _*_, _/_, _%_, _≤_, _<_}
-use native.Mathlib.Nat.{div-div-eq-div-mul, mod-lt}
+use mathlib.Core.Path.{_≡_, refl, ap, _∙_}
+use mathlib.Core.List.{List}
+use mathlib.Core.Option.{some}
+use Prim.Native.Nat.{ℕ, _/_, _%_, _≤_, _<_}
+use native.Mathlib.Nat.{div-div-eq-div-mul}
 use native.Mathlib.Omega.{arith}
 use borrow.Author.Tests.{le-leb}
-use lib.Dec.{leb}
 use lib.ListN.{length}
-use Rattle.rules.specs.Bytes.{if_then_else_, number, part, Text, ascii}
-use Rattle.rules.specs.Numerals.{lower, lastDigits, padded}
+use Rattle.rules.specs.Bytes.{number, part, Text}
+use Rattle.rules.specs.Numerals.{lastDigits}
 use Rattle.rules.specs.Dates.{Date, dateOf, dateText, clockText, timeText, fileTimeText, fileTime}
 use Rattle.laws.specs.Digits.{readBack, padded-back}
 use Rattle.laws.specs.Calendar.{Real, dayNumber, month-short, date-real, there-and-back}

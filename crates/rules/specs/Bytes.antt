@@ -1,6 +1,6 @@
 -- Bytes and the numbers that they hold. A list of bytes is a list of numbers; all numbers in the files are little-endian.
 use mathlib.Core.Bool.{Bool, true, false, _&&_}
-use mathlib.Core.List.{List, [], _∷_, _++_}
+use mathlib.Core.List.{List, [], _∷_}
 use Prim.Native.Nat.{ℕ, _+_, _*_}
 use Prim.Native.Char.{code}
 use Prim.Native.String.{String}

@@ -1,5 +1,5 @@
 -- Decimal and hexadecimal numbers as text.
-use mathlib.Core.Bool.{Bool, true, false}
+use mathlib.Core.Bool.{true, false}
 use mathlib.Core.List.{List, [], _∷_, _++_}
 use Prim.Native.Nat.{ℕ, zero, suc, _+_, _-_, _^_, _/_, _%_}
 use lib.Dec.{ltb}

@@ -1,6 +1,4 @@
 -- `stopped` meets its contract: the test of the code is the definition's.
-use mathlib.Core.Path.{ap}
-use lib.Dec.{leb}
 use borrow.Author.Needs.{needs}
 use Rattle.output.proofs.stopped.Statement.{statement}
 use Rattle.output.proofs.stopped.Tie as tie
