@@ -1,80 +1,71 @@
--- `number_at` meets its contract: the bytes are read from the last to the first, and v is what those read so far hold.
+-- `number_at` meets its contract: the bytes that are there decide, and they are read by their number.
 use mathlib.Core.Path.{_≡_, _∙_, sym}
-use Prim.Native.Nat.{_+_, _-_, _≤_, min}
+use Prim.Native.Nat.{min}
 use denote.Ref.{now}
-use lib.ListN.{take, drop}
-use Rattle.rules.specs.Bytes.{number}
-use Rattle.octets.specs.Split.{number-past}
-use Rattle.octets.specs.Numbers.{number-step, number-fits}
+use Rattle.octets.specs.Split.{number-past, number-there}
 use borrow.Author.Needs.{needs}
-use native.Mathlib.Omega.{arith}
 use Rattle.octets.proofs.number_at.Statement.{statement}
 use Rattle.octets.proofs.number_at.Tie as tie
 
-abbrev Inv-loop : tie.InvT-loop
-Inv-loop s p n w v₀ i₀ v i = (i ≤ w) × (v ≡ number (take (w - i) (drop (p + i) s)))
+returns : tie.Need-returns
+returns c =
+    let a = c .before .before .args in
+    sym (number-past (a .p) (min 8 (a .n)) (now (a .s)) (c .if1 .taken))
 
-abbrev μ-loop : tie.MeasureT-loop
-μ-loop s p n w v₀ i₀ v i = i
+smaller-requires : tie.Need-smaller-requires
+smaller-requires c κs = search needs
 
-returns : tie.Need-returns Inv-loop μ-loop
-returns c = sym (number-past (c .before .before .args .p) (min 8 (c .before .before .args .n)) (now (c .before .before .args .s)) (c .if1 .taken))
+sub-smaller : tie.Need-sub-smaller
+sub-smaller c = search needs
 
-up-to-8-requires : tie.Need-up-to-8-requires Inv-loop μ-loop
-up-to-8-requires c κs = search needs
+smaller-requires-2 : tie.Need-smaller-requires-2
+smaller-requires-2 c κs = search needs
 
-cast-w : tie.Need-cast-w Inv-loop μ-loop
-cast-w c = search needs
+two-in-requires : tie.Need-two-in-requires
+two-in-requires c κs = search needs
 
-loop-holds : tie.Need-loop-holds Inv-loop μ-loop
-loop-holds c =
-    let w = c .up-to-8 .result in
-    let z : w - w ≡ 0 = omega arith in
-    (search needs, rw z)
+four-in-requires : tie.Need-four-in-requires
+four-in-requires c κs = search needs
 
-sub-i : tie.Need-sub-i Inv-loop μ-loop
-sub-i c = search needs
+eight-in-requires : tie.Need-eight-in-requires
+eight-in-requires c κs = search needs
 
-add-octet : tie.Need-add-octet Inv-loop μ-loop
-add-octet c = search needs
+some-in-requires : tie.Need-some-in-requires
+some-in-requires c κs = search needs
 
-octet-requires : tie.Need-octet-requires Inv-loop μ-loop
-octet-requires c κs = search needs
-
-mul-v : tie.Need-mul-v Inv-loop μ-loop
-mul-v c = omega (arith, number-fits (now (c .before .before .before .before .before .before .args .s)) (c .before .before .before .before .before .shared-slice-known .given) (c .before .before .before .before .before .before .args .p) (c .before .before .before .up-to-8 .result) (c .before .before .loop .i) (c .before .before .loop .v) (search needs) (search needs) (c .before .before .loop .inv .0) (c .before .before .loop .inv .1))
-
-add-v : tie.Need-add-v Inv-loop μ-loop
-add-v c = omega (arith, c .octet .ensures .0, number-fits (now (c .before .before .before .before .before .before .args .s)) (c .before .before .before .before .before .shared-slice-known .given) (c .before .before .before .before .before .before .args .p) (c .before .before .before .up-to-8 .result) (c .before .before .loop .i) (c .before .before .loop .v) (search needs) (search needs) (c .before .before .loop .inv .0) (c .before .before .loop .inv .1))
-
-loop-less : tie.Need-loop-less Inv-loop μ-loop
-loop-less c = search needs
-
-loop-again : tie.Need-loop-again Inv-loop μ-loop
-loop-again c = (search needs, rw (c .octet .ensures .0) (number-step (now (c .before .before .before .before .before .before .args .s)) (c .before .before .before .before .before .shared-slice-known .given) (c .before .before .before .before .before .before .args .p) (c .before .before .before .up-to-8 .result) (c .before .before .loop .i) (c .before .before .loop .v) (search needs) (search needs) (c .before .before .loop .inv .0) (c .before .before .loop .inv .1)))
-
-returns-2 : tie.Need-returns-2 Inv-loop μ-loop
+returns-2 : tie.Need-returns-2
 returns-2 c =
-    let z : c .before .loop .i ≡ 0 = omega arith in
-    let a : c .before .before .up-to-8 .result - 0 ≡ c .before .before .up-to-8 .result = omega arith in
-    let b : c .before .before .before .before .before .args .p + 0 ≡ c .before .before .before .before .before .args .p = omega arith in
-    c .before .loop .inv .1 ∙ rw (z, a, b, c .before .before .up-to-8 .ensures)
+    let a = c .before .before .before .before .before .before .args in
+    c .two-in .ensures .0 ∙ number-there (a .p) (min 8 (a .n)) 2 (now (a .s)) (search needs)
+
+returns-3 : tie.Need-returns-3
+returns-3 c =
+    let a = c .before .before .before .before .before .before .args in
+    c .four-in .ensures .0 ∙ number-there (a .p) (min 8 (a .n)) 4 (now (a .s)) (search needs)
+
+returns-4 : tie.Need-returns-4
+returns-4 c =
+    let a = c .before .before .before .before .before .before .args in
+    c .eight-in .ensures ∙ number-there (a .p) (min 8 (a .n)) 8 (now (a .s)) (search needs)
+
+returns-5 : tie.Need-returns-5
+returns-5 c =
+    let a = c .before .before .before .before .before .before .args in
+    c .some-in .ensures ∙ number-there (a .p) (min 8 (a .n)) (c .before .before .smaller2 .result) (now (a .s)) (rw (c .before .before .before .smaller .ensures) at (c .before .before .smaller2 .ensures))
 
 pub number-at-spec : {M : Type 1} → statement M
 number-at-spec =
     tie.close
     (tie.spec
-    Inv-loop
-    μ-loop
     returns
-    up-to-8-requires
-    cast-w
-    loop-holds
-    sub-i
-    add-octet
-    octet-requires
-    mul-v
-    add-v
-    loop-less
-    loop-again
-    returns-2)
+    smaller-requires
+    sub-smaller
+    smaller-requires-2
+    two-in-requires
+    four-in-requires
+    eight-in-requires
+    some-in-requires
+    returns-2
+    returns-3
+    returns-4
+    returns-5)
