@@ -3,7 +3,6 @@
 --     bits-more : some bits, and then more
 --     by-bytes : the state after a word, and k bytes of zero behind it, by the word's bytes
 --     over-number : the state after some bytes is the state after all bits of their number, added to the state before
---     number-four : the number in 4 bytes, from each of them
 --     over-sixteen : the state after 16 bytes, by the numbers in each 4 of them
 use mathlib.Core.Path.{_≡_, refl, ap, ap₂, sym, _∙_}
 use mathlib.Core.List.{List, [], _∷_, _++_}
@@ -12,7 +11,7 @@ use native.Mathlib.Nat.{add-zero, add-suc}
 use native.Mathlib.Omega.{arith}
 use lib.Bits.{bitXor, xor-zero-r, xor-comm, xor-shifted}
 use lib.ListN.{length, take, drop, getD, length-drop}
-use lib.Seq.{take-add, drop-cons, drop-drop, getD-drop}
+use lib.Seq.{take-add, drop-drop, getD-drop}
 use Rattle.rules.specs.Bytes.{number, numberAt}
 use Rattle.rules.specs.Checksum.{crcBit, crcBits, crcByte, crcOver}
 use Rattle.crc32.specs.Linear.{xor-assoc, bits-linear, bits-shifted, by-table}
@@ -66,17 +65,6 @@ over-number (suc n) (b ∷ s) h bytes c =
     ∙ ap (crcBits (8 * n)) (sym (byte-out c b (number (take n s)) (bytes 0)))
     ∙ sym (bits-more (8 * n) 8 (bitXor c (b + 256 * number (take n s))))
     ∙ ap (λ (k : ℕ). crcBits k (bitXor c (b + 256 * number (take n s)))) z
-
-number-front : (n p q : ℕ) (s : List ℕ) → p < length s → q ≡ suc p → numberAt p (suc n) s ≡ getD s p 0 + 256 * numberAt q n s
-number-front n p q s h e = rw e (ap (λ (l : List ℕ). number (take (suc n) l)) (drop-cons s p 0 h))
-
-pub number-four : (i : ℕ) (s : List ℕ) → i + 4 ≤ length s → getD s i 0 + 256 * getD s (i + 1) 0 + 65536 * getD s (i + 2) 0 + 16777216 * getD s (i + 3) 0 ≡ numberAt i 4 s
-number-four i s h =
-    let a = number-front 3 i (i + 1) s (omega arith) (omega arith) in
-    let b = number-front 2 (i + 1) (i + 2) s (omega arith) (omega arith) in
-    let c = number-front 1 (i + 2) (i + 3) s (omega arith) (omega arith) in
-    let d = number-front 0 (i + 3) (i + 4) s (omega arith) (omega arith) in
-    omega (arith, a, b, c, d)
 
 module _ (s : List ℕ) (bytes : (j : ℕ) → getD s j 0 < 256) (i : ℕ) where
   -- the first word of a stretch goes through by itself, and the rest from a state of zero

@@ -52,21 +52,11 @@ fn word(rows: &[u32; 4096], k: usize, x: u32) -> u32
         ^ row_entry(rows, k + 3, x)
 }
 
-fn wide(b: u8) -> u32
-    ensures { λ r. ⌜ (r ≡ b) × (r < 256) ⌝ }
-{
-    b as u32
-}
-
 // The number in the 4 bytes at i.
 fn four(part: &[u8], i: usize) -> u32
-    requires { ⌜ i + 4 ≤ length (now part) ⌝ }
     ensures { λ r. ⌜ r ≡ numberAt i 4 (now (part .entry)) ⌝ }
 {
-    wide(part[i])
-        + 256 * wide(part[i + 1])
-        + 65536 * wide(part[i + 2])
-        + 16777216 * wide(part[i + 3])
+    octets::four(part, i) as u32
 }
 
 // The state after the 16 bytes at i. The word that waits for the state is added last, so that the others are ready by then.

@@ -1,11 +1,12 @@
 // The C interface: each call of the library under its C name, with its answer as a struct of numbers. include/evtx.h declares it.
 ghost use mathlib.Core.Path.{_≡_};
 ghost use lib.ListN.{length};
+ghost use Rattle.rules.specs.Answers.{Answered};
 ghost use Rattle.rules.specs.Headers.{checkFileHeader, checkChunk};
 ghost use Rattle.rules.specs.Records.{searchChunk, searchBytes, nextInChunk, nextInBytes, stretchOf, fieldsOf};
 ghost use Rattle.rules.specs.RecordText.{textOf};
 ghost use Rattle.record.specs.Asked.{nextMeaning};
-ghost use Rattle.evtx_c.specs.Answers.{checked, Searched, foundOf, stretchIn, fieldsIn, Told};
+ghost use Rattle.evtx_c.specs.Answers.{checked, foundOf, stretchIn, fieldsIn};
 
 #[repr(C)]
 pub struct EvtxAnswer {
@@ -88,7 +89,7 @@ pub extern "C" fn evtx_check_chunk(chunk: &[u8]) -> EvtxAnswer
 // Lists the records of a chunk.
 #[no_mangle]
 pub extern "C" fn evtx_search_chunk(chunk: &[u8], offsets: &mut [u32]) -> EvtxAnswer
-    ensures { λ r. ⌜ Searched (searchChunk (now (chunk .entry)) (length (now (offsets .entry)))) (now (offsets .entry)) (now (offsets .exit)) r ⌝ }
+    ensures { λ r. ⌜ Answered (searchChunk (now (chunk .entry)) (length (now (offsets .entry)))) (now (offsets .entry)) (now (offsets .exit)) (r .number) (r .length) ⌝ }
 {
     counted(record::search_chunk(chunk, offsets))
 }
@@ -96,7 +97,7 @@ pub extern "C" fn evtx_search_chunk(chunk: &[u8], offsets: &mut [u32]) -> EvtxAn
 // Lists the records of loose bytes.
 #[no_mangle]
 pub extern "C" fn evtx_search_bytes(bytes: &[u8], offsets: &mut [u32]) -> EvtxAnswer
-    ensures { λ r. ⌜ Searched (searchBytes (now (bytes .entry)) (length (now (offsets .entry)))) (now (offsets .entry)) (now (offsets .exit)) r ⌝ }
+    ensures { λ r. ⌜ Answered (searchBytes (now (bytes .entry)) (length (now (offsets .entry)))) (now (offsets .entry)) (now (offsets .exit)) (r .number) (r .length) ⌝ }
 {
     counted(record::search_bytes(bytes, offsets))
 }
@@ -171,7 +172,7 @@ fn told(text: evtx::Answer) -> EvtxText
 // The text of a record.
 #[no_mangle]
 pub extern "C" fn evtx_record_text(chunk: &[u8], offset: u64, out: &mut [u8]) -> EvtxText
-    ensures { λ r. ⌜ Told (textOf (now (chunk .entry)) offset (length (now (out .entry)))) (now (out .entry)) (now (out .exit)) r ⌝ }
+    ensures { λ r. ⌜ Answered (textOf (now (chunk .entry)) offset (length (now (out .entry)))) (now (out .entry)) (now (out .exit)) (r .number) (r .length) ⌝ }
 {
     told(evtx::record_text(chunk, offset as usize, out))
 }

@@ -20,7 +20,7 @@ fn wide(b: u8) -> u64
 
 // The number in the 2 bytes at i, which are there.
 fn two_in(s: &[u8], i: usize) -> u64
-    requires { do ⌜ i + 2 ≤ (← ⟦s.len()⟧) ⌝ }
+    requires { ⌜ i + 2 ≤ length (now s) ⌝ }
     ensures { λ r. ⌜ (r ≡ numberAt i 2 (now (s .entry))) × (r < 65536) ⌝ }
 {
     wide(s[i]) + 256 * wide(s[i + 1])
@@ -28,7 +28,7 @@ fn two_in(s: &[u8], i: usize) -> u64
 
 // The number in the 4 bytes at i, which are there.
 fn four_in(s: &[u8], i: usize) -> u64
-    requires { do ⌜ i + 4 ≤ (← ⟦s.len()⟧) ⌝ }
+    requires { ⌜ i + 4 ≤ length (now s) ⌝ }
     ensures { λ r. ⌜ (r ≡ numberAt i 4 (now (s .entry))) × (r < 4294967296) ⌝ }
 {
     two_in(s, i) + 65536 * two_in(s, i + 2)
@@ -36,7 +36,7 @@ fn four_in(s: &[u8], i: usize) -> u64
 
 // The number in the 8 bytes at i, which are there.
 fn eight_in(s: &[u8], i: usize) -> u64
-    requires { do ⌜ i + 8 ≤ (← ⟦s.len()⟧) ⌝ }
+    requires { ⌜ i + 8 ≤ length (now s) ⌝ }
     ensures { λ r. ⌜ r ≡ numberAt i 8 (now (s .entry)) ⌝ }
 {
     four_in(s, i) + 4294967296 * four_in(s, i + 4)
@@ -44,7 +44,7 @@ fn eight_in(s: &[u8], i: usize) -> u64
 
 // The number in the w bytes at p, which are there.
 fn some_in(s: &[u8], p: usize, w: usize) -> u64
-    requires { do ⌜ (w ≤ 8) × (p + w ≤ (← ⟦s.len()⟧)) ⌝ }
+    requires { ⌜ (w ≤ 8) × (p + w ≤ length (now s)) ⌝ }
     ensures { λ r. ⌜ r ≡ numberAt p w (now (s .entry)) ⌝ }
 {
     let mut v: u64 = 0;

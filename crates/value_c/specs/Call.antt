@@ -1,20 +1,19 @@
--- What a call for the text of a value answers and leaves: the answer and the memory, as two equations.
+-- What a call for the text of a value answers and leaves.
 --     told-refused, told-long, told-fits : what the first run tells, and the second leaves
 use mathlib.Core.Path.{_≡_, refl, ap, sym, _∙_}
-use mathlib.Core.List.{List, [], _∷_, _++_}
+use mathlib.Core.List.{List, [], _∷_}
 use Prim.Native.Nat.{ℕ, _*_, _^_, _≤_, _<_}
 use native.Mathlib.Nat.{zero-add}
 use native.Mathlib.Omega.{arith}
 use borrow.Author.Tests.{le-leb, lt-leb}
-use lib.ListN.{length, drop}
+use lib.ListN.{length}
 use Rattle.output.specs.Output.{adv, top-none, emit-fits}
 use Rattle.rules.specs.Bytes.{Text}
-use Rattle.rules.specs.Answers.{Outcome, refusal, wrongValue, roomTooSmall, inRoom, numberOf, listOf}
+use Rattle.rules.specs.Answers.{Outcome, refusal, wrongValue, roomTooSmall, inRoom, Answered}
 use Rattle.rules.specs.Values.{Written, written, wrongType, wrongSize, wrongContent}
 use Rattle.value.specs.Value.{answerOf, PutValue, numberIn}
 use Rattle.value.specs.declared.Put.{Put}
 use Rattle.value.specs.declared.Put.the-variants.{Done}
-use Rattle.value_c.specs.declared.EvtxValue.{EvtxValue}
 
 -- what comes of the call with so much room: the text, 11, or 13
 abbrev pub outcome : ℕ → Written → Outcome Text
@@ -23,22 +22,15 @@ outcome room wrongType = refusal wrongValue
 outcome room wrongSize = refusal wrongValue
 outcome room wrongContent = refusal wrongValue
 
--- the text stands at the front of the memory, and the rest is as it was; a refusal's text is empty
-abbrev pub held : Outcome Text → List ℕ → List ℕ
-held o out = listOf o ++ drop (length (listOf o)) out
+-- what is promised of a run: the memory before and after it, the number and the length
+abbrev pub Told : Written → List ℕ → List ℕ → ℕ → ℕ → Type 0
+Told w out out′ n l = Answered (outcome (length out) w) out out′ n l
 
-pub record Told (w : Written) (out out′ : List ℕ) (r : EvtxValue) : Type 0 where
-  pub answer : r ≡ record { number = numberOf (outcome (length out) w); length = length (listOf (outcome (length out) w)) }
-  pub bytes : out′ ≡ held (outcome (length out) w) out
-
-abbrev pub answered : ℕ → ℕ → EvtxValue
-answered n l = record { number = n; length = l }
-
-pub told-refused : (w : Written) (out : List ℕ) (r : Put) → r ≡ answerOf 0 0 w → numberIn r ≡ wrongValue → Told w out out (answered wrongValue 0)
+pub told-refused : (w : Written) (out : List ℕ) (r : Put) → r ≡ answerOf 0 0 w → numberIn r ≡ wrongValue → Told w out out wrongValue 0
 told-refused (written t) out r e n = absurd (omega (arith, sym (ap numberIn e) ∙ n))
-told-refused wrongType out r e n = record { answer = refl; bytes = refl }
-told-refused wrongSize out r e n = record { answer = refl; bytes = refl }
-told-refused wrongContent out r e n = record { answer = refl; bytes = refl }
+told-refused wrongType out r e n = record { number-is = refl; length-is = refl; memory = refl }
+told-refused wrongSize out r e n = record { number-is = refl; length-is = refl; memory = refl }
+told-refused wrongContent out r e n = record { number-is = refl; length-is = refl; memory = refl }
 
 -- an empty list
 pub empty : (o : List ℕ) → length o ≡ 0 → o ≡ []
@@ -49,25 +41,25 @@ empty (x ∷ o) h = absurd (omega arith)
 counted : (t : Text) {at : ℕ} → Done at ≡ answerOf 0 0 (written t) → at ≡ adv 0 0 (length t)
 counted t e = cc
 
-pub told-long : (w : Written) (out : List ℕ) (at : ℕ) → Done at ≡ answerOf 0 0 w → length out < at → Told w out out (answered roomTooSmall 0)
+pub told-long : (w : Written) (out : List ℕ) (at : ℕ) → Done at ≡ answerOf 0 0 w → length out < at → Told w out out roomTooSmall 0
 unfolding adv
 told-long (written t) out at e h =
     let c = counted t e in
     let free = top-none in
     let long = lt-leb (length t) (length out) (omega arith) in
-    record { answer = rw long; bytes = rw long }
+    record { number-is = rw long; length-is = rw long; memory = rw long }
 told-long wrongType out at e h = absurd (let z = ap numberIn e in omega arith)
 told-long wrongSize out at e h = absurd (let z = ap numberIn e in omega arith)
 told-long wrongContent out at e h = absurd (let z = ap numberIn e in omega arith)
 
-pub told-fits : (w : Written) (out out′ : List ℕ) (at : ℕ) (r : Put) → Done at ≡ answerOf 0 0 w → at ≤ length out → length out * 1 < 2 ^ 63 → PutValue w out 0 out′ r → Told w out out′ (answered 0 at)
+pub told-fits : (w : Written) (out out′ : List ℕ) (at : ℕ) (r : Put) → Done at ≡ answerOf 0 0 w → at ≤ length out → length out * 1 < 2 ^ 63 → PutValue w out 0 out′ r → Told w out out′ 0 at
 unfolding adv
 told-fits (written t) out out′ at r e h room p =
     let c = counted t e in
     let free = top-none in
     let n : at ≡ length t = omega arith in
     let fits = le-leb (length t) (length out) (omega arith) in
-    record { answer = rw (fits, n); bytes = rw fits (p .bytes ∙ emit-fits out 0 t (omega arith) ∙ rw zero-add) }
+    record { number-is = rw fits; length-is = rw (fits, n); memory = rw fits (p .bytes ∙ emit-fits out 0 t (omega arith) ∙ rw zero-add) }
 told-fits wrongType out out′ at r e h room p = absurd (let z = ap numberIn e in omega arith)
 told-fits wrongSize out out′ at r e h room p = absurd (let z = ap numberIn e in omega arith)
 told-fits wrongContent out out′ at r e h room p = absurd (let z = ap numberIn e in omega arith)

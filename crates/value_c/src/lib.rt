@@ -14,7 +14,7 @@ pub struct EvtxValue {
 // fits, with all of out. So a refused call leaves out as it was.
 #[no_mangle]
 pub extern "C" fn evtx_put_value(kind: u8, src: &[u8], out: &mut [u8]) -> EvtxValue
-    ensures { λ r. ⌜ Told (valueText kind (now (src .entry))) (now (out .entry)) (now (out .exit)) r ⌝ }
+    ensures { λ r. ⌜ Told (valueText kind (now (src .entry))) (now (out .entry)) (now (out .exit)) (r .number) (r .length) ⌝ }
 {
     match value::put_value(&mut out[..0], 0, kind, src) {
         Put::Done { at } => {
