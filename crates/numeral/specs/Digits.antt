@@ -1,16 +1,32 @@
--- Laws of the digits of rules.Numerals: shortest digits from the last one backwards, and digits of either case.
+-- Laws of the digits of rules.Numerals, once over the base: how many digits a number has, and digits of either case.
 --     digits-low, digits-high : below the base one digit; else those of the quotient, and then that of the remainder
+--     digits-last : so they are the last digits, as many as the powers of the base say
 use mathlib.Core.Path.{_≡_, refl, ap, sym, _∙_}
 use mathlib.Core.Bool.{Bool, true, false}
 use mathlib.Core.List.{List, [], _∷_, _++_, append-assoc}
-use Prim.Native.Nat.{ℕ, zero, suc, _*_, _/_, _%_, _≤_, _<_}
-use native.Mathlib.Nat.{div-lt-self}
+use mathlib.Core.Logic.{_⊎_, inl, inr}
+use Prim.Native.Nat.{ℕ, zero, suc, _*_, _-_, _/_, _%_, _^_, _≤_, _<_}
+use native.Mathlib.Nat.{div-lt-self, div-mul-le-self, mod-lt, mod-eq-sub-div-mul, pow-suc, pow-zero, one-mul, one-le-pow, mod-eq-of-lt, div-lt-iff-lt-mul, mul-le-mul-right, le-div-iff-mul-le}
 use native.Mathlib.Omega.{arith}
 use borrow.Author.Tests.{ltb-true, ltb-false, lt-ltb, le-ltb}
 use lib.Dec.{ltb}
-use lib.ListN.{length}
+use lib.ListN.{length, length-append}
 use Rattle.rules.specs.Bytes.{Text}
 use Rattle.rules.specs.Numerals.{lower, upper, digits, lastDigits, upperHex, hexPairs}
+
+-- the two bases
+abbrev pub Base : ℕ → Type 0
+Base base = (base ≡ 10) ⊎ (base ≡ 16)
+
+pub base-bounds : {base : ℕ} → Base base → (10 ≤ base) × (base ≤ 16)
+base-bounds (inl e) = (omega arith, omega arith)
+base-bounds (inr e) = (omega arith, omega arith)
+
+-- what the quotient q leaves of n is its last digit
+pub remainder : {base : ℕ} → Base base → (n q : ℕ) → q ≡ n / base → (q * base ≤ n) × (n - q * base ≡ n % base) × (n % base < 16)
+remainder {base} b n q e =
+    let t = base-bounds b in
+    (rw e (div-mul-le-self n base), rw e (sym (mod-eq-sub-div-mul n base)), omega (arith, mod-lt n {m = base} (omega arith)))
 
 -- a digit in upper case if asked
 abbrev pub cased : Bool → ℕ → ℕ
@@ -66,6 +82,24 @@ module _ (base : ℕ) (two : 2 ≤ base) where
       ∙ more base n n [] h
       ∙ before base n (n / base) (lower (n % base) ∷ [])
       ∙ ap (_++ (lower (n % base) ∷ [])) (bounds n (n / base) (n / base) [] (omega arith) (omega arith))
+
+  -- they are its last digits, as many as the powers of the base say
+  pub digits-last : (k n : ℕ) → n < base ^ suc k → (k ≡ 0) ⊎ (base ^ k ≤ n) → digits base n n [] ≡ lastDigits lower base (suc k) n
+  unfolding lastDigits
+  digits-last zero n h some =
+      let low : n < base = rw (pow-suc, pow-zero, one-mul) at h in
+      digits-low n low ∙ ap (λ (d : ℕ). lower d ∷ []) (sym (mod-eq-of-lt low))
+  digits-last (suc k) n h (inl e) = absurd (omega arith)
+  digits-last (suc k) n h (inr g) =
+      let before : base ^ k ≤ n / base = le-div-iff-mul-le {k = base} {x = base ^ k} {y = n} (omega arith) .1 (rw pow-suc at g) in
+      let high : base ≤ n = omega (arith, mul-le-mul-right base (one-le-pow k base (omega arith)), pow-suc base k) in
+      digits-high n high
+      ∙ ap (_++ (lower (n % base) ∷ [])) (digits-last k (n / base) (div-lt-iff-lt-mul {k = base} {x = n} {y = base ^ suc k} (omega arith) .1 (rw (pow-suc base (suc k)) at h)) (inr before))
+
+pub last-length : (digit : ℕ → ℕ) (base k n : ℕ) → length (lastDigits digit base k n) ≡ k
+unfolding lastDigits
+last-length digit base zero n = refl
+last-length digit base (suc k) n = rw length-append (omega (arith, last-length digit base k (n / base)))
 
 -- a byte has two hex digits
 pub byte-pair : (b : ℕ) → b < 256 → upperHex 2 b ≡ upper (b / 16) ∷ upper (b % 16) ∷ []

@@ -1,2 +1,4 @@
 pub mod Digits
+pub mod Counting
+pub mod Backwards
 pub mod Integers

@@ -1,13 +1,13 @@
 // Numbers as text: decimal and hexadecimal, once over the base, the count of digits and the width in bytes.
 ghost use mathlib.Core.Path.{_≡_};
 ghost use mathlib.Core.List.{[]};
-ghost use Prim.Native.Nat.{_+_, _^_, _≤_, _<_};
+ghost use Prim.Native.Nat.{_+_, _/_, _^_, _≤_, _<_};
 ghost use lib.ListN.{length, take};
 ghost use Rattle.output.specs.Output.{Wrote};
 ghost use Rattle.output.specs.Tables.{tabled};
 ghost use Rattle.rules.specs.Bytes.{number};
-ghost use Rattle.rules.specs.Numerals.{upper, digits, decimal, shortHex, lastDigits, padded, upperHex, unsigned, signed, allHex, hexPairs};
-ghost use Rattle.numeral.specs.Digits.{cased};
+ghost use Rattle.rules.specs.Numerals.{lower, upper, digits, decimal, shortHex, lastDigits, padded, upperHex, unsigned, signed, allHex, hexPairs};
+ghost use Rattle.numeral.specs.Digits.{Base, cased};
 
 fn wide(b: u8) -> u64
     ensures { λ r. ⌜ (r ≡ b) × (r < 256) ⌝ }
@@ -23,35 +23,101 @@ fn digit(upper: bool, d: u64) -> u8
     requires { ⌜ d < 16 ⌝ }
     ensures { λ r. ⌜ r ≡ cased upper d ⌝ }
 {
-    let i = d as usize;
+    if d < 10 {
+        return b'0' + d as u8;
+    }
     if upper {
-        return DIGITS[1][i];
+        return b'A' - 10 + d as u8;
     }
-    DIGITS[0][i]
+    b'a' - 10 + d as u8
 }
 
-// As few digits as there can be.
-fn put_digits(out: &mut [u8], at: usize, base: u64, n: u64) -> usize
-    requires { ⌜ (2 ≤ base) × (base ≤ 16) ⌝ }
-    ensures { λ r. ⌜ Wrote (now (out .entry)) at (digits base n n []) (now (out .exit)) r ⌝ }
+// n / base. A divisor that is a constant costs no division.
+fn divided(base: u64, n: u64) -> u64
+    requires { ⌜ Base base ⌝ }
+    ensures { λ r. ⌜ r ≡ n / base ⌝ }
 {
-    if n < base {
-        return output::put(out, at, digit(false, n));
+    if base == 10 {
+        return n / 10;
     }
-    let place = put_digits(out, at, base, n / base);
-    output::put(out, place, digit(false, n % base))
+    n / 16
 }
 
-// The last k digits.
-fn put_last(out: &mut [u8], at: usize, upper: bool, base: u64, k: u8, n: u64) -> usize
-    requires { ⌜ (2 ≤ base) × (base ≤ 16) ⌝ }
+// How many digits n has. The powers of the base are compared with n / base, so that none is too large.
+fn count(base: u64, n: u64) -> usize
+    requires { ⌜ Base base ⌝ }
+    ensures { λ r. ⌜ digits base n n [] ≡ lastDigits lower base r n ⌝ }
+{
+    let most = divided(base, n);
+    let mut power: u64 = 1;
+    let mut k = 1;
+    while power <= most {
+        power = power * base;
+        k += 1;
+    }
+    k
+}
+
+// The last k digits, all of which fit, from the last one backwards.
+fn put_inside(out: &mut [u8], at: usize, upper: bool, base: u64, k: usize, n: u64) -> usize
+    requires { do ⌜ Base base × (at + k ≤ (← ⟦out.len()⟧)) ⌝ }
+    ensures { λ r. ⌜ Wrote (now (out .entry)) at (lastDigits (cased upper) base k n) (now (out .exit)) r ⌝ }
+{
+    let mut i = at + k;
+    let mut left = n;
+    while at < i {
+        i -= 1;
+        let before = divided(base, left);
+        out[i] = digit(upper, left - before * base);
+        left = before;
+    }
+    at + k
+}
+
+// The last k digits, as far as they fit, from the first one on.
+fn put_cut(out: &mut [u8], at: usize, upper: bool, base: u64, k: usize, n: u64) -> usize
+    requires { ⌜ Base base ⌝ }
     ensures { λ r. ⌜ Wrote (now (out .entry)) at (lastDigits (cased upper) base k n) (now (out .exit)) r ⌝ }
 {
     if k == 0 {
         return at;
     }
-    let place = put_last(out, at, upper, base, k - 1, n / base);
+    let place = put_cut(out, at, upper, base, k - 1, n / base);
     output::put(out, place, digit(upper, n % base))
+}
+
+// The last k digits.
+fn put_last(out: &mut [u8], at: usize, upper: bool, base: u64, k: usize, n: u64) -> usize
+    requires { ⌜ Base base ⌝ }
+    ensures { λ r. ⌜ Wrote (now (out .entry)) at (lastDigits (cased upper) base k n) (now (out .exit)) r ⌝ }
+{
+    if out.len() <= at {
+        return output::skip(at, k);
+    }
+    if k <= out.len() - at {
+        return put_inside(out, at, upper, base, k, n);
+    }
+    put_cut(out, at, upper, base, k, n)
+}
+
+// As few digits as there can be. Where they are cut short it calls itself, and not put_cut: a function that calls itself is compiled once,
+// where a copy of it in each caller makes the values of few digits slower.
+fn put_digits(out: &mut [u8], at: usize, base: u64, n: u64) -> usize
+    requires { ⌜ Base base ⌝ }
+    ensures { λ r. ⌜ Wrote (now (out .entry)) at (digits base n n []) (now (out .exit)) r ⌝ }
+{
+    if n < base {
+        return output::put(out, at, digit(false, n));
+    }
+    let k = count(base, n);
+    if out.len() <= at {
+        return output::skip(at, k);
+    }
+    if k <= out.len() - at {
+        return put_inside(out, at, false, base, k, n);
+    }
+    let place = put_digits(out, at, base, n / base);
+    output::put(out, place, digit(false, n % base))
 }
 
 pub fn put_decimal(out: &mut [u8], at: usize, n: u64) -> usize
@@ -72,21 +138,21 @@ pub fn put_short_hex(out: &mut [u8], at: usize, n: u64) -> usize
 pub fn put_padded(out: &mut [u8], at: usize, k: u8, n: u64) -> usize
     ensures { λ r. ⌜ Wrote (now (out .entry)) at (padded k n) (now (out .exit)) r ⌝ }
 {
-    put_last(out, at, false, 10, k, n)
+    put_last(out, at, false, 10, k as usize, n)
 }
 
 // k upper-case hex digits.
 pub fn put_upper_hex(out: &mut [u8], at: usize, k: u8, n: u64) -> usize
     ensures { λ r. ⌜ Wrote (now (out .entry)) at (upperHex k n) (now (out .exit)) r ⌝ }
 {
-    put_last(out, at, true, 16, k, n)
+    put_last(out, at, true, 16, k as usize, n)
 }
 
 // The width that a number of these bytes is read with: all of them, up to 8.
-fn width(src: &[u8]) -> u8
+fn width(src: &[u8]) -> usize
     ensures { λ r. ⌜ r ≡ length (take 8 (now (src .entry))) ⌝ }
 {
-    if src.len() < 8 { src.len() as u8 } else { 8 }
+    if src.len() < 8 { src.len() } else { 8 }
 }
 
 // The number that the bytes hold, of 8 bytes at most.
@@ -97,12 +163,12 @@ fn number_of(src: &[u8]) -> u64
 }
 
 // The largest number that fits w bytes.
-fn largest(w: u8) -> u64
+fn largest(w: usize) -> u64
     requires { ⌜ w ≤ 8 ⌝ }
     ensures { λ r. ⌜ r + 1 ≡ 256 ^ w ⌝ }
 {
     let mut top: u64 = 0;
-    let mut i: u8 = 0;
+    let mut i = 0;
     while i < w {
         top = top * 256 + 255;
         i += 1;

@@ -1,4 +1,6 @@
 -- `put_short_hex` meets its contract: `0x`, and base 16.
+use mathlib.Core.Path.{refl}
+use mathlib.Core.Logic.{inr}
 use Rattle.output.specs.Output.{wrote-more}
 use Rattle.rules.specs.Numerals.{shortHex}
 use borrow.Author.Needs.{needs}
@@ -12,7 +14,7 @@ put-text-requires : tie.Need-put-text-requires
 put-text-requires c κs = search needs
 
 put-digits-requires : tie.Need-put-digits-requires
-put-digits-requires c κs = search needs
+put-digits-requires c κs = inr refl
 
 same-length : tie.Need-same-length
 same-length c = search needs

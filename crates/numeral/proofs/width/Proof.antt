@@ -1,12 +1,8 @@
 -- `width` meets its contract.
 use lib.ListN.{length-take}
 use native.Mathlib.Omega.{arith}
-use borrow.Author.Needs.{needs}
 use Rattle.numeral.proofs.width.Statement.{statement}
 use Rattle.numeral.proofs.width.Tie as tie
-
-cast-result : tie.Need-cast-result
-cast-result c = search needs
 
 returns : tie.Need-returns
 returns c = rw length-take (omega arith)
@@ -15,4 +11,4 @@ returns-2 : tie.Need-returns-2
 returns-2 c = rw length-take (omega arith)
 
 pub width-spec : {M : Type 1} → statement M
-width-spec = tie.close (tie.spec cast-result returns returns-2)
+width-spec = tie.close (tie.spec returns returns-2)

@@ -1,0 +1,49 @@
+-- `count` meets its contract. The measure is what the power lacks to n / base.
+use mathlib.Core.Path.{_∙_}
+use Prim.Native.Nat.{_+_, _-_}
+use native.Mathlib.Omega.{arith}
+use borrow.Author.Needs.{needs}
+use Rattle.numeral.specs.Counting.{Counting, count-start, next-inside, next-larger, count-step, count-end}
+use Rattle.numeral.proofs.count.Statement.{statement}
+use Rattle.numeral.proofs.count.Tie as tie
+
+abbrev Inv-loop : tie.InvT-loop
+Inv-loop base n most power₀ k₀ power k = Counting base n power k
+
+abbrev μ-loop : tie.MeasureT-loop
+μ-loop base n most power₀ k₀ power k = most + 1 - power
+
+divided-requires : tie.Need-divided-requires Inv-loop μ-loop
+divided-requires c κs = search needs
+
+loop-holds : tie.Need-loop-holds Inv-loop μ-loop
+loop-holds c = count-start
+
+mul-power : tie.Need-mul-power Inv-loop μ-loop
+mul-power c = omega (arith, next-inside (c .before .before .before .pre) (c .before .loop .inv) (rw (c .before .before .divided .ensures) at (c .loop-test .taken)))
+
+add-k : tie.Need-add-k Inv-loop μ-loop
+add-k c = omega (arith, next-larger (c .before .before .before .pre) (c .before .loop .inv), next-inside (c .before .before .before .pre) (c .before .loop .inv) (rw (c .before .before .divided .ensures) at (c .loop-test .taken)))
+
+loop-less : tie.Need-loop-less Inv-loop μ-loop
+loop-less c = omega (arith, next-larger (c .before .before .before .pre) (c .before .loop .inv))
+
+loop-again : tie.Need-loop-again Inv-loop μ-loop
+loop-again c = count-step (c .before .before .before .pre) (c .before .loop .inv) (rw (c .before .before .divided .ensures) at (c .loop-test .taken))
+
+returns : tie.Need-returns Inv-loop μ-loop
+returns c = count-end (c .before .before .before .pre) (c .before .loop .inv) (rw (c .before .before .divided .ensures) at (c .loop-test .left))
+
+pub count-spec : {M : Type 1} → statement M
+count-spec =
+    tie.close
+    (tie.spec
+    Inv-loop
+    μ-loop
+    divided-requires
+    loop-holds
+    mul-power
+    add-k
+    loop-less
+    loop-again
+    returns)

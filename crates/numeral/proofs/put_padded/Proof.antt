@@ -1,0 +1,18 @@
+-- `put_padded` meets its contract: base 10.
+use mathlib.Core.Path.{refl}
+use mathlib.Core.Logic.{inl}
+use borrow.Author.Needs.{needs}
+use Rattle.numeral.proofs.put_padded.Statement.{statement}
+use Rattle.numeral.proofs.put_padded.Tie as tie
+
+put-last-requires : tie.Need-put-last-requires
+put-last-requires c κs = inl refl
+
+same-length : tie.Need-same-length
+same-length c = search needs
+
+returns : tie.Need-returns
+returns c = search needs
+
+pub put-padded-spec : {M : Type 1} → statement M
+put-padded-spec = tie.close (tie.spec put-last-requires same-length returns)

@@ -1,0 +1,18 @@
+-- `put_upper_hex` meets its contract: base 16, in upper case.
+use mathlib.Core.Path.{refl}
+use mathlib.Core.Logic.{inr}
+use borrow.Author.Needs.{needs}
+use Rattle.numeral.proofs.put_upper_hex.Statement.{statement}
+use Rattle.numeral.proofs.put_upper_hex.Tie as tie
+
+put-last-requires : tie.Need-put-last-requires
+put-last-requires c κs = inr refl
+
+same-length : tie.Need-same-length
+same-length c = search needs
+
+returns : tie.Need-returns
+returns c = search needs
+
+pub put-upper-hex-spec : {M : Type 1} → statement M
+put-upper-hex-spec = tie.close (tie.spec put-last-requires same-length returns)
