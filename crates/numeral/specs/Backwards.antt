@@ -7,12 +7,12 @@ use native.Mathlib.Nat.{add-zero, add-suc, suc-add, div-le-self}
 use native.Mathlib.Omega.{arith}
 use lib.ListN.{length, set, length-set}
 use lib.Seq.{sets, set-comm}
-use Rattle.output.specs.Output.{Wrote, emit, adv, adv-low, wrote-past}
+use Rattle.output.specs.Output.{Wrote, emit, adv, adv-fits, wrote-past}
 use Rattle.rules.specs.Numerals.{lastDigits}
 use Rattle.numeral.specs.Digits.{last-length}
 
-pub last-past : (digit : ℕ → ℕ) (base k n : ℕ) (out : List ℕ) (at r : ℕ) → length out ≤ at → r ≡ adv at k → Wrote out at (lastDigits digit base k n) out r
-last-past digit base k n out at r h e = wrote-past out at (lastDigits digit base k n) r h (e ∙ ap (adv at) (sym (last-length digit base k n)))
+pub last-past : (digit : ℕ → ℕ) (base k n : ℕ) (out : List ℕ) (at r : ℕ) → length out ≤ at → r ≡ adv (length out) at k → Wrote out at (lastDigits digit base k n) out r
+last-past digit base k n out at r h e = wrote-past out at (lastDigits digit base k n) r h (e ∙ ap (adv (length out) at) (sym (last-length digit base k n)))
 
 -- a byte behind those that are set may be set before them
 sets-last : (l out : List ℕ) (at x : ℕ) → sets (set out (at + length l) x) at l ≡ sets out at (l ++ (x ∷ []))
@@ -55,5 +55,5 @@ module _ {digit : ℕ → ℕ} {base k n : ℕ} {out₀ : List ℕ} {at : ℕ} w
         let e : i - at ≡ 0 = omega arith in
         record {
           bytes = rw e at (p .rest);
-          count = sym (rw (last-length digit base k n) (adv-low at k (omega arith)));
+          count = sym (rw (last-length digit base k n) (adv-fits (length out₀) at k (omega arith) (omega arith)));
         }

@@ -60,7 +60,7 @@ fn count(base: u64, n: u64) -> usize
 
 // The last k digits, all of which fit, from the last one backwards.
 fn put_inside(out: &mut [u8], at: usize, upper: bool, base: u64, k: usize, n: u64) -> usize
-    requires { do ⌜ Base base × (at + k ≤ (← ⟦out.len()⟧)) ⌝ }
+    requires { ⌜ Base base × (at + k ≤ length (now out)) ⌝ }
     ensures { λ r. ⌜ Wrote (now (out .entry)) at (lastDigits (cased upper) base k n) (now (out .exit)) r ⌝ }
 {
     let mut i = at + k;
@@ -92,7 +92,7 @@ fn put_last(out: &mut [u8], at: usize, upper: bool, base: u64, k: usize, n: u64)
     ensures { λ r. ⌜ Wrote (now (out .entry)) at (lastDigits (cased upper) base k n) (now (out .exit)) r ⌝ }
 {
     if out.len() <= at {
-        return output::skip(at, k);
+        return output::skip(out.len(), at, k);
     }
     if k <= out.len() - at {
         return put_inside(out, at, upper, base, k, n);
@@ -100,24 +100,12 @@ fn put_last(out: &mut [u8], at: usize, upper: bool, base: u64, k: usize, n: u64)
     put_cut(out, at, upper, base, k, n)
 }
 
-// As few digits as there can be. Where they are cut short it calls itself, and not put_cut: a function that calls itself is compiled once,
-// where a copy of it in each caller makes the values of few digits slower.
+// As few digits as there can be.
 fn put_digits(out: &mut [u8], at: usize, base: u64, n: u64) -> usize
     requires { ⌜ Base base ⌝ }
     ensures { λ r. ⌜ Wrote (now (out .entry)) at (digits base n n []) (now (out .exit)) r ⌝ }
 {
-    if n < base {
-        return output::put(out, at, digit(false, n));
-    }
-    let k = count(base, n);
-    if out.len() <= at {
-        return output::skip(at, k);
-    }
-    if k <= out.len() - at {
-        return put_inside(out, at, false, base, k, n);
-    }
-    let place = put_digits(out, at, base, n / base);
-    output::put(out, place, digit(false, n % base))
+    put_last(out, at, false, base, count(base, n), n)
 }
 
 pub fn put_decimal(out: &mut [u8], at: usize, n: u64) -> usize
