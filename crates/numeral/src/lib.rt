@@ -9,12 +9,6 @@ ghost use Rattle.rules.specs.Bytes.{number};
 ghost use Rattle.rules.specs.Numerals.{lower, upper, digits, decimal, shortHex, lastDigits, padded, upperHex, unsigned, signed, allHex, hexPairs};
 ghost use Rattle.numeral.specs.Digits.{Base, cased};
 
-fn wide(b: u8) -> u64
-    ensures { λ r. ⌜ (r ≡ b) × (r < 256) ⌝ }
-{
-    b as u64
-}
-
 // The hex digits in lower case, and in upper case.
 const DIGITS: [[u8; 16]; 2] = [*b"0123456789abcdef", *b"0123456789ABCDEF"];
 
@@ -197,7 +191,7 @@ fn put_pair(out: &mut [u8], at: usize, table: &[u8; 16], b: u8) -> usize
     requires { ⌜ now table ≡ tabled upper 16 ⌝ }
     ensures { λ r. ⌜ Wrote (now (out .entry)) at (upperHex 2 b) (now (out .exit)) r ⌝ }
 {
-    let n = wide(b) as usize;
+    let n = octets::wide(b) as usize;
     let place = output::put(out, at, table[n / 16]);
     output::put(out, place, table[n % 16])
 }

@@ -12,7 +12,8 @@ pub fn octet(s: &[u8], i: usize) -> u64
     if i < s.len() { s[i] as u64 } else { 0 }
 }
 
-fn wide(b: u8) -> u64
+// A byte as a number.
+pub fn wide(b: u8) -> u64
     ensures { λ r. ⌜ (r ≡ b) × (r < 256) ⌝ }
 {
     b as u64

@@ -1,16 +1,8 @@
 // Writes the text of each value of a list, for comparison with a stored one. Standard input holds the values, each as its type (1
 // byte), its size (2 bytes, little-endian) and its bytes. For each a line is written: the text, or `refused 11` and the cause.
-ghost use Prim.Native.Nat.{_<_};
-ghost use mathlib.Core.Path.{_≡_};
 use libc::STDIN_FILENO;
 use libc::STDOUT_FILENO;
 use value::Put;
-
-fn wide(b: u8) -> usize
-    ensures { λ r. ⌜ (r ≡ b) × (r < 256) ⌝ }
-{
-    b as usize
-}
 
 // The text of one value, or its refusal. A value of 65,535 bytes has a text below 262,144, so out is never too small.
 fn show(kind: u8, src: &[u8], out: &mut [u8]) {
@@ -39,7 +31,7 @@ fn next(buf: &mut [u8], out: &mut [u8]) -> bool {
         return false;
     }
     let kind = head[0];
-    let size = wide(head[1]) + 256 * wide(head[2]);
+    let size = octets::two(&head, 1) as usize;
     if buf.len() < size {
         return false;
     }

@@ -17,23 +17,11 @@ returns c = search needs
 array-read-kind : tie.Need-array-read-kind
 array-read-kind c = search needs
 
-array-read-wide : tie.Need-array-read-wide
-array-read-wide c = search needs
+slice-aggregate-two : tie.Need-slice-aggregate-two
+slice-aggregate-two c = search needs
 
-wide-requires : tie.Need-wide-requires
-wide-requires c κs = search needs
-
-array-read-wide-2 : tie.Need-array-read-wide-2
-array-read-wide-2 c = search needs
-
-wide-requires-2 : tie.Need-wide-requires-2
-wide-requires-2 c κs = search needs
-
-mul-size : tie.Need-mul-size
-mul-size c = search needs
-
-add-size : tie.Need-add-size
-add-size c = search needs
+two-requires : tie.Need-two-requires
+two-requires c κs = search needs
 
 returns-2 : tie.Need-returns-2
 returns-2 c = search needs
@@ -85,12 +73,8 @@ next-spec =
     read-full-requires
     returns
     array-read-kind
-    array-read-wide
-    wide-requires
-    array-read-wide-2
-    wide-requires-2
-    mul-size
-    add-size
+    slice-aggregate-two
+    two-requires
     returns-2
     slice-relend-prefix-read-full
     slice-aggregate-read-full-2
