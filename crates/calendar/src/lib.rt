@@ -1,10 +1,11 @@
 // FileTime and SysTime as text, over one table of the days before each month.
 ghost use mathlib.Core.Path.{_≡_};
+ghost use mathlib.Core.List.{[], _∷_, _++_};
 ghost use Prim.Native.Nat.{_+_, _≤_, _<_};
 ghost use lib.ListN.{take, getD};
 ghost use Rattle.output.specs.Output.{Wrote};
 ghost use Rattle.rules.specs.Numerals.{padded};
-ghost use Rattle.rules.specs.Dates.{leap, isDate, isClock, dateOf, dateText, clockText, timeText, fileTime, sysTime};
+ghost use Rattle.rules.specs.Dates.{leap, isDate, isClock, dateOf, clockText, timeText, fileTime, sysTime};
 ghost use Rattle.laws.specs.Calendar.{daysOfYears};
 ghost use Rattle.calendar.specs.Times.{dateIn, PutTime};
 ghost use Rattle.calendar.specs.Years.{rowOf, YearOf};
@@ -110,35 +111,24 @@ fn date_of(d: u64) -> Date
     }
 }
 
-// `YYYY-MM-DD`
-fn put_date(out: &mut [u8], at: usize, d: Date) -> usize
-    ensures { λ r. ⌜ Wrote (now (out .entry)) at (dateText (dateIn d)) (now (out .exit)) r ⌝ }
+// k digits of a, and two of each of b and c, with `mark` before each of these.
+fn put_marked(out: &mut [u8], at: usize, mark: u8, k: u8, a: u64, b: u64, c: u64) -> usize
+    ensures { λ r. ⌜ Wrote (now (out .entry)) at (padded k a ++ (mark ∷ []) ++ padded 2 b ++ (mark ∷ []) ++ padded 2 c) (now (out .exit)) r ⌝ }
 {
-    let a = numeral::put_padded(out, at, 4, d.year);
-    let b = output::put(out, a, b'-');
-    let c = numeral::put_padded(out, b, 2, d.month);
-    let e = output::put(out, c, b'-');
-    numeral::put_padded(out, e, 2, d.day)
-}
-
-// `hh:mm:ss`
-fn put_clock(out: &mut [u8], at: usize, t: Clock) -> usize
-    ensures { λ r. ⌜ Wrote (now (out .entry)) at (clockText (t .hour) (t .minute) (t .second)) (now (out .exit)) r ⌝ }
-{
-    let a = numeral::put_padded(out, at, 2, t.hour);
-    let b = output::put(out, a, b':');
-    let c = numeral::put_padded(out, b, 2, t.minute);
-    let d = output::put(out, c, b':');
-    numeral::put_padded(out, d, 2, t.second)
+    let first = numeral::put_padded(out, at, k, a);
+    let second = output::put(out, first, mark);
+    let third = numeral::put_padded(out, second, 2, b);
+    let fourth = output::put(out, third, mark);
+    numeral::put_padded(out, fourth, 2, c)
 }
 
 // `YYYY-MM-DDThh:mm:ss.`, k digits of a fraction, `Z`
 fn put_time(out: &mut [u8], at: usize, d: Date, t: Clock, k: u8, fraction: u64) -> usize
     ensures { λ r. ⌜ Wrote (now (out .entry)) at (timeText (dateIn d) (clockText (t .hour) (t .minute) (t .second)) (padded k fraction)) (now (out .exit)) r ⌝ }
 {
-    let a = put_date(out, at, d);
+    let a = put_marked(out, at, b'-', 4, d.year, d.month, d.day);
     let b = output::put(out, a, b'T');
-    let c = put_clock(out, b, t);
+    let c = put_marked(out, b, b':', 2, t.hour, t.minute, t.second);
     let e = output::put(out, c, b'.');
     let f = numeral::put_padded(out, e, k, fraction);
     output::put(out, f, b'Z')

@@ -1,13 +1,12 @@
--- `put_clock` meets its contract: its five parts in a row.
+-- `put_marked` meets its contract: its five parts in a row.
 use Prim.Native.Nat.{_<_, _^_}
 use denote.Ref.{now}
 use lib.ListN.{length}
 use Rattle.output.specs.Output.{wrote-more}
-use Rattle.rules.specs.Dates.{clockText}
 use native.Mathlib.Omega.{arith}
 use borrow.Author.Needs.{needs}
-use Rattle.calendar.proofs.put_clock.Statement.{statement}
-use Rattle.calendar.proofs.put_clock.Tie as tie
+use Rattle.calendar.proofs.put_marked.Statement.{statement}
+use Rattle.calendar.proofs.put_marked.Tie as tie
 
 put-padded-requires : tie.Need-put-padded-requires
 put-padded-requires c κs = search needs
@@ -28,13 +27,12 @@ same-length : tie.Need-same-length
 same-length c = search needs
 
 returns : tie.Need-returns
-unfolding clockText
 returns c =
     let room : length (now (c .before .before .before .before .before .before .before .before .before .before .before .before .before .before .before .before .before .before .before .before .before .args .out)) < 2 ^ 63 = omega (arith, c .before .before .before .before .before .before .before .before .before .before .before .before .before .before .before .before .before .before .before .before .before .good) in
     wrote-more room (wrote-more room (wrote-more room (wrote-more room (c .before .before .before .before .before .before .before .before .before .before .before .before .before .before .before .before .before .before .put-padded .ensures) (c .before .before .before .before .before .before .before .before .before .before .before .before .before .before .put .ensures)) (c .before .before .before .before .before .before .before .before .before .before .put-padded2 .ensures)) (c .before .before .before .before .before .before .put2 .ensures)) (c .before .before .put-padded3 .ensures)
 
-pub put-clock-spec : {M : Type 1} → statement M
-put-clock-spec =
+pub put-marked-spec : {M : Type 1} → statement M
+put-marked-spec =
     tie.close
     (tie.spec
     put-padded-requires
