@@ -18,6 +18,12 @@ use Rattle.rules.specs.Numerals.{lower, upper, digits, lastDigits, upperHex, he
 abbrev pub Base : ℕ → Type 0
 Base base = (base ≡ 10) ⊎ (base ≡ 16)
 
+pub base-10 : Base 10
+base-10 = inl refl
+
+pub base-16 : Base 16
+base-16 = inr refl
+
 pub base-bounds : {base : ℕ} → Base base → (10 ≤ base) × (base ≤ 16)
 base-bounds (inl e) = (omega arith, omega arith)
 base-bounds (inr e) = (omega arith, omega arith)

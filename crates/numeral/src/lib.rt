@@ -9,9 +9,6 @@ ghost use Rattle.rules.specs.Bytes.{number};
 ghost use Rattle.rules.specs.Numerals.{lower, upper, digits, decimal, shortHex, lastDigits, padded, upperHex, unsigned, signed, allHex, hexPairs};
 ghost use Rattle.numeral.specs.Digits.{Base, cased};
 
-// The hex digits in lower case, and in upper case.
-const DIGITS: [[u8; 16]; 2] = [*b"0123456789abcdef", *b"0123456789ABCDEF"];
-
 // A digit below 16, in upper case if asked.
 fn digit(upper: bool, d: u64) -> u8
     requires { ⌜ d < 16 ⌝ }
@@ -203,11 +200,11 @@ pub fn put_pairs(out: &mut [u8], at: usize, src: &[u8]) -> usize
     if out.len() <= at {
         return output::skip(out.len(), at, 2 * src.len());
     }
-    let table = DIGITS[1];
+    let table = b"0123456789ABCDEF";
     let mut place = at;
     let mut i = 0;
     while i < src.len() {
-        place = put_pair(out, place, &table, src[i]);
+        place = put_pair(out, place, table, src[i]);
         i += 1;
     }
     place

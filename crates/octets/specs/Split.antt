@@ -1,6 +1,6 @@
 -- A number in m + n bytes is the number in the first m, and the number in the next n that many bytes higher: one law for every
 -- width, and for bytes that are not there.
-use mathlib.Core.Path.{_≡_, refl, ap, _∙_}
+use mathlib.Core.Path.{_≡_, refl}
 use mathlib.Core.Bool.{Bool, true, false}
 use mathlib.Core.List.{List, [], _∷_}
 use Prim.Native.Nat.{ℕ, zero, suc, _+_, _*_, _-_, _^_, _≤_, min}
@@ -9,8 +9,8 @@ use native.Mathlib.Omega.{arith}
 use borrow.Author.Tests.{leb-true, leb-false}
 use lib.Dec.{leb}
 use lib.ListN.{length, take, drop, getD, drop-of-length-le, length-drop}
-use lib.Seq.{drop-drop, take-nil, drop-nil, take-all}
-use Rattle.rules.specs.Bytes.{number, part, numberAt}
+use lib.Seq.{drop-drop, take-nil, take-all}
+use Rattle.rules.specs.Bytes.{number, numberAt}
 
 take-split : (m n : ℕ) (l : List ℕ) → number (take (m + n) l) ≡ number (take m l) + 256 ^ m * number (take n (drop m l))
 take-split zero n l = let z : 0 + n ≡ n = omega arith in rw (z, pow-zero) (omega arith)

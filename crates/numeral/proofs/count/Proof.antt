@@ -1,5 +1,4 @@
 -- `count` meets its contract. The measure is what the power lacks to n / base.
-use mathlib.Core.Path.{_∙_}
 use Prim.Native.Nat.{_+_, _-_}
 use native.Mathlib.Omega.{arith}
 use borrow.Author.Needs.{needs}
@@ -20,19 +19,19 @@ loop-holds : tie.Need-loop-holds Inv-loop μ-loop
 loop-holds c = count-start
 
 mul-power : tie.Need-mul-power Inv-loop μ-loop
-mul-power c = omega (arith, next-inside (c .before .before .before .pre) (c .before .loop .inv) (rw (c .before .before .divided .ensures) at (c .loop-test .taken)))
+mul-power c = omega (arith, next-inside (c .before .before .before .pre) (c .before .loop .inv) (omega (arith, c .before .before .divided .ensures)))
 
 add-k : tie.Need-add-k Inv-loop μ-loop
-add-k c = omega (arith, next-larger (c .before .before .before .pre) (c .before .loop .inv), next-inside (c .before .before .before .pre) (c .before .loop .inv) (rw (c .before .before .divided .ensures) at (c .loop-test .taken)))
+add-k c = omega (arith, next-larger (c .before .before .before .pre) (c .before .loop .inv), next-inside (c .before .before .before .pre) (c .before .loop .inv) (omega (arith, c .before .before .divided .ensures)))
 
 loop-less : tie.Need-loop-less Inv-loop μ-loop
 loop-less c = omega (arith, next-larger (c .before .before .before .pre) (c .before .loop .inv))
 
 loop-again : tie.Need-loop-again Inv-loop μ-loop
-loop-again c = count-step (c .before .before .before .pre) (c .before .loop .inv) (rw (c .before .before .divided .ensures) at (c .loop-test .taken))
+loop-again c = count-step (c .before .before .before .pre) (c .before .loop .inv) (omega (arith, c .before .before .divided .ensures))
 
 returns : tie.Need-returns Inv-loop μ-loop
-returns c = count-end (c .before .before .before .pre) (c .before .loop .inv) (rw (c .before .before .divided .ensures) at (c .loop-test .left))
+returns c = count-end (c .before .before .before .pre) (c .before .loop .inv) (omega (arith, c .before .before .divided .ensures))
 
 pub count-spec : {M : Type 1} → statement M
 count-spec =

@@ -1,7 +1,5 @@
 -- `divided` meets its contract: the base is one of the two.
-use mathlib.Core.Path.{sym}
 use mathlib.Core.Logic.{⊎-elim}
-use native.Mathlib.Omega.{arith}
 use Rattle.numeral.proofs.divided.Statement.{statement}
 use Rattle.numeral.proofs.divided.Tie as tie
 

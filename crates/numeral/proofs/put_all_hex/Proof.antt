@@ -1,13 +1,13 @@
 -- `put_all_hex` meets its contract: two digits a byte.
 use Rattle.output.specs.Output.{wrote-more}
-use mathlib.Core.Path.{_≡_, refl}
-use mathlib.Core.Logic.{inr}
+use mathlib.Core.Path.{_≡_}
 use Prim.Native.Nat.{_+_, _*_}
 use denote.Ref.{now}
 use lib.ListN.{length, take}
 use Rattle.rules.specs.Numerals.{allHex}
 use Rattle.numeral.specs.Integers.{width-most}
 use native.Mathlib.Omega.{arith}
+use Rattle.numeral.specs.Digits.{base-10, base-16}
 use borrow.Author.Needs.{needs}
 use Rattle.numeral.proofs.put_all_hex.Statement.{statement}
 use Rattle.numeral.proofs.put_all_hex.Tie as tie
@@ -28,7 +28,7 @@ number-of-requires : tie.Need-number-of-requires
 number-of-requires c κs = search needs
 
 put-last-requires : tie.Need-put-last-requires
-put-last-requires c κs = inr refl
+put-last-requires c κs = search (needs, base-10, base-16)
 
 same-length : tie.Need-same-length
 same-length c = search needs

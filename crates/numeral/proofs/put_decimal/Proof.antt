@@ -1,13 +1,12 @@
 -- `put_decimal` meets its contract: base 10.
-use mathlib.Core.Path.{refl}
-use mathlib.Core.Logic.{inl}
 use Rattle.rules.specs.Numerals.{decimal}
+use Rattle.numeral.specs.Digits.{base-10, base-16}
 use borrow.Author.Needs.{needs}
 use Rattle.numeral.proofs.put_decimal.Statement.{statement}
 use Rattle.numeral.proofs.put_decimal.Tie as tie
 
 put-digits-requires : tie.Need-put-digits-requires
-put-digits-requires c κs = inl refl
+put-digits-requires c κs = search (needs, base-10, base-16)
 
 same-length : tie.Need-same-length
 same-length c = search needs

@@ -1,5 +1,4 @@
 -- `put_inside` meets its contract: a digit is what the quotient leaves. The measure is the place, which goes down to `at`.
-use mathlib.Core.Path.{_∙_, sym}
 use native.Mathlib.Omega.{arith}
 use borrow.Author.Needs.{needs}
 use Rattle.numeral.specs.Digits.{cased, remainder}

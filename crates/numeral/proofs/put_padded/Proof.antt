@@ -1,12 +1,11 @@
 -- `put_padded` meets its contract: base 10.
-use mathlib.Core.Path.{refl}
-use mathlib.Core.Logic.{inl}
+use Rattle.numeral.specs.Digits.{base-10, base-16}
 use borrow.Author.Needs.{needs}
 use Rattle.numeral.proofs.put_padded.Statement.{statement}
 use Rattle.numeral.proofs.put_padded.Tie as tie
 
 put-last-requires : tie.Need-put-last-requires
-put-last-requires c κs = inl refl
+put-last-requires c κs = search (needs, base-10, base-16)
 
 same-length : tie.Need-same-length
 same-length c = search needs

@@ -28,9 +28,6 @@ returns c =
     let s = now (c .before .before .before .before .args .src) in
     wrote-past _ _ (hexPairs s) _ (search needs) (c .skip .ensures ∙ ap (adv _ (c .before .before .before .before .args .at)) (sym (pairs-length s)))
 
-array-copy-out-table : tie.Need-array-copy-out-table Inv-loop μ-loop
-array-copy-out-table c = search needs
-
 loop-holds : tie.Need-loop-holds Inv-loop μ-loop
 loop-holds c = (search needs, left-start (search needs))
 
@@ -49,7 +46,7 @@ loop-less c = search needs
 loop-again : tie.Need-loop-again Inv-loop μ-loop
 unfolding hexPairs
 loop-again c =
-    (search needs, each-step hexPairs (now (c .before .before .before .before .before .before .before .before .before .before .before .before .args .src)) (upperHex 2) (λ b bs. refl) (c .before .before .before .before .before .before .before .loop .i) (search needs) (c .before .before .before .before .before .before .before .loop .inv .1) (c .before .before .put-pair .ensures))
+    (search needs, each-step hexPairs (now (c .before .before .before .before .before .before .before .before .before .before .before .args .src)) (upperHex 2) (λ b bs. refl) (c .before .before .before .before .before .before .loop .i) (search needs) (c .before .before .before .before .before .before .loop .inv .1) (c .before .before .put-pair .ensures))
 
 same-length : tie.Need-same-length Inv-loop μ-loop
 same-length c = search needs
@@ -67,7 +64,6 @@ put-pairs-spec =
     mul-skip
     skip-requires
     returns
-    array-copy-out-table
     loop-holds
     shared-slice-read-put-pair
     put-pair-requires

@@ -1,8 +1,7 @@
 -- `put_short_hex` meets its contract: `0x`, and base 16.
-use mathlib.Core.Path.{refl}
-use mathlib.Core.Logic.{inr}
 use Rattle.output.specs.Output.{wrote-more}
 use Rattle.rules.specs.Numerals.{shortHex}
+use Rattle.numeral.specs.Digits.{base-10, base-16}
 use borrow.Author.Needs.{needs}
 use Rattle.numeral.proofs.put_short_hex.Statement.{statement}
 use Rattle.numeral.proofs.put_short_hex.Tie as tie
@@ -14,7 +13,7 @@ put-text-requires : tie.Need-put-text-requires
 put-text-requires c κs = search needs
 
 put-digits-requires : tie.Need-put-digits-requires
-put-digits-requires c κs = inr refl
+put-digits-requires c κs = search (needs, base-10, base-16)
 
 same-length : tie.Need-same-length
 same-length c = search needs

@@ -1,12 +1,11 @@
 -- `put_upper_hex` meets its contract: base 16, in upper case.
-use mathlib.Core.Path.{refl}
-use mathlib.Core.Logic.{inr}
+use Rattle.numeral.specs.Digits.{base-10, base-16}
 use borrow.Author.Needs.{needs}
 use Rattle.numeral.proofs.put_upper_hex.Statement.{statement}
 use Rattle.numeral.proofs.put_upper_hex.Tie as tie
 
 put-last-requires : tie.Need-put-last-requires
-put-last-requires c κs = inr refl
+put-last-requires c κs = search (needs, base-10, base-16)
 
 same-length : tie.Need-same-length
 same-length c = search needs

@@ -1,5 +1,5 @@
 -- `number_at` meets its contract: the bytes that are there decide, and they are read by their number.
-use mathlib.Core.Path.{_≡_, _∙_, sym}
+use mathlib.Core.Path.{_∙_, sym}
 use Prim.Native.Nat.{min}
 use denote.Ref.{now}
 use Rattle.octets.specs.Split.{number-past, number-there}
