@@ -139,9 +139,7 @@ fn nested(inside: impl Fn(&mut Writer) + Copy) -> Writer {
             w.substitution(0x0e, 1);
         });
     };
-    let with = |value: &[u8]| {
-        body(|w| w.instance(element, &[(0x21, value), (0x21, &[])]))
-    };
+    let with = |value: &[u8]| body(|w| w.instance(element, &[(0x21, value), (0x21, &[])]));
     // The value's length does not move its start.
     let start = with(&[]).here();
     with(&value_at(start, inside))
@@ -204,9 +202,8 @@ fn records_beyond_the_free_space() {
     seal_chunk(&mut chunk, second_at as u32 + 28);
     let whole = "512 18446744073709551615 <P></P>\n";
     let later = format!("{second_at} 5 refused 8\n");
-    let expected = format!(
-        "header refused 2\nchunk 0 ok\n{whole}{later}chunk 1 ok\n{whole}{later}"
-    );
+    let expected =
+        format!("header refused 2\nchunk 0 ok\n{whole}{later}chunk 1 ok\n{whole}{later}");
     assert_eq!(listing(&file(&chunk)), expected.as_bytes());
     seal_chunk(&mut chunk, second_at as u32 + 27);
     let expected = format!("header refused 2\nchunk 0 ok\n{whole}chunk 1 ok\n{whole}");

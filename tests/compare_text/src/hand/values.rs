@@ -109,32 +109,21 @@ fn identifiers() -> Vec<Question> {
     ])
 }
 
-/// Sizes of each fixed type one off, and types that the table has not.
+/// The types whose values have one of a few sizes, by size.
+const SIZES: [(usize, &[u8]); 5] = [
+    (1, &[0x03, 0x04]),
+    (2, &[0x05, 0x06]),
+    (4, &[0x07, 0x08, 0x0b, 0x0d, 0x10, 0x14]),
+    (8, &[0x09, 0x0a, 0x0c, 0x10, 0x11, 0x15]),
+    (16, &[0x0f, 0x12]),
+];
+
+/// Sizes of each such type one off, and types that the table has not.
 fn sizes_and_types() -> Vec<Question> {
-    let fixed = [
-        (0x03, 1),
-        (0x04, 1),
-        (0x05, 2),
-        (0x06, 2),
-        (0x07, 4),
-        (0x08, 4),
-        (0x09, 8),
-        (0x0a, 8),
-        (0x0b, 4),
-        (0x0c, 8),
-        (0x0d, 4),
-        (0x0f, 16),
-        (0x11, 8),
-        (0x12, 16),
-        (0x14, 4),
-        (0x15, 8),
-        (0x10, 4),
-        (0x10, 8),
-    ];
     let mut cases = Vec::new();
-    for (kind, size) in fixed {
+    for (size, kinds) in SIZES {
         for given in [0, size - 1, size + 1, 2 * size + 1] {
-            cases.extend(wrong(kind, &vec![1; given]));
+            cases.extend(kinds.iter().flat_map(|kind| wrong(*kind, &vec![1; given])));
         }
     }
     cases.extend(wrong(0x01, &[0x41]));

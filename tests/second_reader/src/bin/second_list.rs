@@ -6,7 +6,5 @@ use std::io::{Read, Write};
 fn main() -> std::io::Result<()> {
     let mut log = Vec::new();
     std::io::stdin().lock().read_to_end(&mut log)?;
-    std::io::stdout()
-        .lock()
-        .write_all(&second_reader::listing::listing(&log))
+    std::io::stdout().lock().write_all(&second_reader::listing::listing(&log))
 }
