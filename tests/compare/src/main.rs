@@ -4,7 +4,6 @@
 //! `compare [--seed NUMBER]`: the inputs follow from NUMBER, or from a fixed one.
 
 mod cases;
-mod first;
 mod headers;
 mod nexts;
 mod records;

@@ -1,8 +1,8 @@
 //! Compares the searches of a chunk and of loose bytes, with rooms around the
 //! number of records.
 
-use crate::first::{self, Answer};
 use crate::trial::Trial;
+use first_reader::answers::Answer;
 use second_reader::record;
 use std::collections::BTreeSet;
 use support::difference::{Difference, Outcome};
@@ -12,8 +12,8 @@ type First = fn(&mut Lent<u8>, &mut Lent<u32>) -> Answer;
 type Second = fn(&[u8], usize) -> Result<Vec<u32>, u32>;
 
 pub fn compare(trial: &mut Trial) -> Outcome {
-    search(trial, "evtx_search_chunk", first::search_chunk, record::search_chunk)?;
-    search(trial, "evtx_search_bytes", first::search_bytes, record::search_bytes)
+    search(trial, "evtx_search_chunk", first_reader::search_chunk, record::search_chunk)?;
+    search(trial, "evtx_search_bytes", first_reader::search_bytes, record::search_bytes)
 }
 
 fn search(trial: &mut Trial, call: &'static str, first: First, second: Second) -> Outcome {

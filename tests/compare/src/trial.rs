@@ -1,7 +1,7 @@
 //! One input on trial: the calls of both readers are settled here, answer
 //! against answer, with the lent memory checked after each call.
 
-use crate::first::{Answer, Fields, Found, Stretch};
+use first_reader::answers::{Answer, Fields, Found, Stretch};
 use std::fmt::{Debug, Display};
 use support::difference::{Difference, Outcome};
 use support::lent::Lent;
@@ -32,29 +32,17 @@ pub trait Numbered: Copy + Debug + PartialEq {
     fn number(&self) -> u32;
 }
 
-impl Numbered for Answer {
-    fn number(&self) -> u32 {
-        self.number
-    }
+macro_rules! numbered {
+    ($($answer:ty),*) => {
+        $(impl Numbered for $answer {
+            fn number(&self) -> u32 {
+                self.number
+            }
+        })*
+    };
 }
 
-impl Numbered for Found {
-    fn number(&self) -> u32 {
-        self.number
-    }
-}
-
-impl Numbered for Stretch {
-    fn number(&self) -> u32 {
-        self.number
-    }
-}
-
-impl Numbered for Fields {
-    fn number(&self) -> u32 {
-        self.number
-    }
-}
+numbered!(Answer, Found, Stretch, Fields);
 
 pub struct Trial<'a> {
     pub case: &'a Case,

@@ -1,6 +1,7 @@
 //! Lent memory that ends where a page begins that may not be touched, or begins
 //! where such a page ends.
 
+use first_reader::Lendable;
 use std::ffi::{c_int, c_void};
 use std::ptr::null_mut;
 
@@ -111,6 +112,29 @@ impl Fenced {
     pub fn rest_kept(&self) -> bool {
         let (front, back) = (&self.touchable()[..self.start], &self.touchable()[self.start..]);
         front.iter().chain(&back[self.length..]).all(|byte| *byte == UNLENT)
+    }
+}
+
+// Safety: the lent bytes are mapped until the value is dropped, and are its own.
+unsafe impl Lendable<u8> for Fenced {
+    fn pointer(&mut self) -> *mut u8 {
+        Fenced::pointer(self)
+    }
+
+    fn length(&self) -> usize {
+        self.length
+    }
+}
+
+/// A list, of four bytes for each entry.
+// Safety: as for bytes; they begin at a multiple of four, as pages and lists do.
+unsafe impl Lendable<u32> for Fenced {
+    fn pointer(&mut self) -> *mut u32 {
+        Fenced::pointer(self).cast()
+    }
+
+    fn length(&self) -> usize {
+        self.length / 4
     }
 }
 

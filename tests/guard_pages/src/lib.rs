@@ -1,5 +1,4 @@
-//! The first reader's calls on memory between pages that may not be touched, so
-//! that a read or write outside what is lent ends the program.
+//! Memory between pages that may not be touched, so that a call that reads or
+//! writes outside what it is lent ends the program.
 
-pub mod calls;
 pub mod fenced;

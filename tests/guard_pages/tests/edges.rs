@@ -1,7 +1,8 @@
 //! Every call of the C interface on memory at the edge of a page that may not
 //! be touched, with the answers of the second reader.
 
-use guard_pages::calls::{self, *};
+use first_reader::answers::{Answer, Fields, Found, Stretch, Text};
+use first_reader::calls::evtx_search_bytes;
 use guard_pages::fenced::{Edge, Fenced, EDGES};
 use second_reader::binxml::{read_record, record_text};
 use second_reader::{header, record};
@@ -71,11 +72,11 @@ fn some_offsets(bytes: &[u8], most: usize) -> Vec<u64> {
 }
 
 /// Hands each input at both edges to `ask`, and looks at it afterwards.
-fn each_input(ask: fn(&[u8], &Fenced)) {
+fn each_input(ask: fn(&[u8], &mut Fenced)) {
     for bytes in inputs() {
         for edge in EDGES {
-            let input = Fenced::input(&bytes, edge);
-            ask(&bytes, &input);
+            let mut input = Fenced::input(&bytes, edge);
+            ask(&bytes, &mut input);
             assert!(input.now() == bytes && input.rest_kept());
         }
     }
@@ -84,24 +85,28 @@ fn each_input(ask: fn(&[u8], &Fenced)) {
 #[test]
 fn header_checks() {
     each_input(|bytes, input| {
-        let answer = calls::check(evtx_check_file_header, input);
-        assert_eq!(answer, (header::check_file_header(bytes), 0));
-        let answer = calls::check(evtx_check_chunk, input);
-        assert_eq!(answer, (header::check_chunk(bytes), 0));
+        let expected = Answer::without_length(header::check_file_header(bytes));
+        assert_eq!(first_reader::check_file_header(input), expected);
+        let expected = Answer::without_length(header::check_chunk(bytes));
+        assert_eq!(first_reader::check_chunk(input), expected);
     });
 }
 
+type First = fn(&mut Fenced, &mut Fenced) -> Answer;
+type Second = fn(&[u8], usize) -> Result<Vec<u32>, u32>;
+
 /// One search with each room around the count of records, and the list at both edges.
-fn search(expected: &dyn Fn(usize) -> Result<Vec<u32>, u32>, run: &dyn Fn(&Fenced) -> (u32, u64)) {
-    let count = expected(usize::MAX).map_or(0, |offsets| offsets.len());
+fn search(bytes: &[u8], input: &mut Fenced, first: First, second: Second) {
+    let count = second(bytes, usize::MAX).map_or(0, |offsets| offsets.len());
     for room in BTreeSet::from([0, count.saturating_sub(1), count, count + 1, count + 77]) {
         for edge in EDGES {
-            let list = Fenced::new(&vec![KEPT; 4 * room], edge);
-            let (number, offsets) = match expected(room) {
+            let mut list = Fenced::new(&vec![KEPT; 4 * room], edge);
+            let (number, offsets) = match second(bytes, room) {
                 Ok(offsets) => (0, offsets),
                 Err(number) => (number, Vec::new()),
             };
-            assert_eq!(run(&list), (number, offsets.len() as u64));
+            let expected = Answer { number, length: offsets.len() as u64 };
+            assert_eq!(first(input, &mut list), expected);
             let front: Vec<u8> = offsets.iter().flat_map(|offset| offset.to_le_bytes()).collect();
             assert!(holds(&list, &front));
         }
@@ -117,28 +122,19 @@ fn holds(memory: &Fenced, front: &[u8]) -> bool {
 #[test]
 fn searches() {
     each_input(|bytes, input| {
-        let run = |list: &Fenced| calls::search(evtx_search_chunk, input, list);
-        search(&|room| record::search_chunk(bytes, room), &run);
-        let run = |list: &Fenced| calls::search(evtx_search_bytes, input, list);
-        search(&|room| record::search_bytes(bytes, room), &run);
+        search(bytes, input, first_reader::search_chunk, record::search_chunk);
+        search(bytes, input, first_reader::search_bytes, record::search_bytes);
     });
-}
-
-fn next_answer(found: Result<u64, u32>) -> (u32, u64) {
-    match found {
-        Ok(offset) => (0, offset),
-        Err(number) => (number, 0),
-    }
 }
 
 #[test]
 fn next_records() {
     each_input(|bytes, input| {
         for from in some_offsets(bytes, 60) {
-            let found = calls::next(evtx_next_in_chunk, input, from);
-            assert_eq!(found, next_answer(record::next_in_chunk(bytes, from)));
-            let found = calls::next(evtx_next_in_bytes, input, from);
-            assert_eq!(found, next_answer(record::next_in_bytes(bytes, from)));
+            let expected: Found = record::next_in_chunk(bytes, from).into();
+            assert_eq!(first_reader::next_in_chunk(input, from), expected);
+            let expected: Found = record::next_in_bytes(bytes, from).into();
+            assert_eq!(first_reader::next_in_bytes(input, from), expected);
         }
     });
 }
@@ -147,27 +143,22 @@ fn next_records() {
 fn stretches_and_fields() {
     each_input(|bytes, input| {
         for offset in some_offsets(bytes, 120) {
-            let expected = match record::record_stretch(bytes, offset) {
-                Ok(found) => (0, [found.offset, found.length]),
-                Err(number) => (number, [0, 0]),
-            };
-            assert_eq!(calls::ask(evtx_record_stretch, input, offset), expected);
-            let expected = match record::record_fields(bytes, offset) {
-                Ok(found) => (0, [found.record_number, found.written_time]),
-                Err(number) => (number, [0, 0]),
-            };
-            assert_eq!(calls::ask(evtx_record_fields, input, offset), expected);
+            let expected: Stretch = record::record_stretch(bytes, offset).into();
+            assert_eq!(first_reader::record_stretch(input, offset), expected);
+            let expected: Fields = record::record_fields(bytes, offset).into();
+            assert_eq!(first_reader::record_fields(input, offset), expected);
         }
     });
 }
 
-fn text(chunk: &[u8], input: &Fenced, offset: u64, room: usize, edge: Edge) {
-    let out = Fenced::new(&vec![KEPT; room], edge);
+fn text(chunk: &[u8], input: &mut Fenced, offset: u64, room: usize, edge: Edge) {
+    let mut out = Fenced::new(&vec![KEPT; room], edge);
     let (number, text) = match record_text(chunk, offset, room as u64) {
         Ok(text) => (0, text),
         Err(refusal) => (refusal.number, Vec::new()),
     };
-    assert_eq!(calls::record_text(input, offset, &out), (number, text.len() as u64));
+    let expected = Text { number, length: text.len() as u64 };
+    assert_eq!(first_reader::record_text(input, offset, &mut out), expected);
     assert!(holds(&out, &text) && input.now() == chunk && input.rest_kept());
 }
 
@@ -191,11 +182,11 @@ fn texts() {
             return Ok::<(), ()>(());
         }
         for edge in EDGES {
-            let input = Fenced::input(&question.chunk, edge);
+            let mut input = Fenced::input(&question.chunk, edge);
             for offset in question.offsets.iter().take(12) {
                 for room in rooms(&question.chunk, *offset) {
                     for edge in EDGES {
-                        text(&question.chunk, &input, *offset, room, edge);
+                        text(&question.chunk, &mut input, *offset, room, edge);
                     }
                 }
             }
@@ -211,7 +202,8 @@ fn texts() {
 fn told_a_byte_too_many() {
     let input = Fenced::input(&[0; 4_096], Edge::Back);
     // Not safe, which is what is tried: the length is one more than is lent.
-    unsafe { evtx_search_bytes(input.pointer(), input.len() + 1, [0].as_mut_ptr(), 1) };
+    let (length, mut list) = (input.len() + 1, [0]);
+    unsafe { evtx_search_bytes(input.pointer(), length, list.as_mut_ptr(), list.len()) };
 }
 
 /// A call that reads one byte beyond what is lent is seen.

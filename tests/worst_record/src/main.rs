@@ -4,6 +4,7 @@
 //! each call counts it and answers 13.
 
 use compare_text::writer::*;
+use first_reader::record_text;
 use std::ffi::c_long;
 
 const ROOM: usize = 65_536;
@@ -12,22 +13,9 @@ const NAME: usize = 5_000;
 const NAME_UNITS: usize = 30_000;
 const VALUE: usize = 62_000;
 
-#[repr(C)]
-struct Text {
-    number: u32,
-    length: u64,
-}
-
 extern "C" {
     /// The processor time of this process, in microseconds.
     fn clock() -> c_long;
-    fn evtx_record_text(
-        chunk: *const u8,
-        chunk_len: usize,
-        offset: u64,
-        out: *mut u8,
-        room: usize,
-    ) -> Text;
 }
 
 /// A record with one value, which is shown `times` times by each of `turns`
@@ -68,14 +56,11 @@ fn processor_time() -> f64 {
 }
 
 /// The best time of some, in seconds.
-fn seconds(chunk: &[u8], out: &mut [u8]) -> f64 {
+fn seconds(chunk: &mut Vec<u8>, out: &mut Vec<u8>) -> f64 {
     let mut best = f64::INFINITY;
     for _ in 0..TRIES {
         let start = processor_time();
-        // Safety: pointers and lengths are those of two slices that live through the call.
-        let answer = unsafe {
-            evtx_record_text(chunk.as_ptr(), chunk.len(), 512, out.as_mut_ptr(), out.len())
-        };
+        let answer = record_text(chunk, 512, out);
         best = best.min(processor_time() - start);
         assert_eq!((answer.number, answer.length), (13, 0), "not the record that was meant");
     }
@@ -92,8 +77,8 @@ fn main() {
         ("elements of one name", one_name(), names),
     ];
     println!("the text of one record, room {ROOM}: answer 13 after all was counted");
-    for (name, chunk, bytes) in kinds {
-        let took = seconds(&chunk, &mut out);
+    for (name, mut chunk, bytes) in kinds {
+        let took = seconds(&mut chunk, &mut out);
         let read = bytes * 1e-9;
         println!(
             "  {name:32} {took:6.2} s for {read:.2} GB of value or name, {:.2} GB/s",

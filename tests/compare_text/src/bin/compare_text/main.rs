@@ -5,7 +5,6 @@
 //! reader's listing program; `--long` adds cases that take many seconds; with a
 //! seed, only what is generated is compared, and follows from it.
 
-mod first;
 mod listings;
 mod trial;
 

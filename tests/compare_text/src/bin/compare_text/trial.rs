@@ -2,8 +2,8 @@
 //! around the text's length, is asked of both readers. The lent memory is
 //! checked after each call.
 
-use crate::first;
 use compare_text::question::{Expected, Question};
+use first_reader::answers::Text;
 use second_reader::binxml::{read_record, record_text};
 use second_reader::numbers::NO_ROOM;
 use std::collections::BTreeSet;
@@ -66,14 +66,14 @@ fn compare_room(
         Err(refusal) => Expected::Refused(refusal.number),
     };
     let mut out = Lent::output(room);
-    let answer = first::record_text(lent, offset, &mut out);
+    let answer = first_reader::record_text(lent, offset, &mut out);
     let hand = question.expected.as_ref().map(|expected| by_hand(expected, room));
     let (number, text) = match &second {
         Expected::Text(text) => (0, text.as_slice()),
         Expected::Refused(number) => (*number, &[][..]),
     };
     tally.note(CALL, number);
-    let wanted = first::Text { number, length: text.len() as u64 };
+    let wanted = Text { number, length: text.len() as u64 };
     let input_kept = lent.holds_only(&[]);
     let agree = answer == wanted && hand.as_ref().is_none_or(|hand| *hand == second);
     if agree && out.holds_only(text) && input_kept {
@@ -100,7 +100,7 @@ fn memory_note(out: &Lent<u8>, text: &[u8], input_kept: bool) -> &'static str {
     }
 }
 
-fn describe(answer: &first::Text, out: &Lent<u8>) -> String {
+fn describe(answer: &Text, out: &Lent<u8>) -> String {
     let kept = (answer.length as usize).min(out.len());
     let text = String::from_utf8_lossy(&out.now()[..kept]);
     shown(&format!("number {}, length {}, {text}", answer.number, answer.length))

@@ -1,6 +1,5 @@
 //! Says where the archive of the first reader lies, which is built beforehand
-//! into the repository's target folder. Only the program that calls it asks
-//! for it, so the others are built without it.
+//! into the repository's target folder.
 
 use std::path::Path;
 

@@ -1,0 +1,82 @@
+//! What the calls answer. Each answer can also be made of what the second
+//! reader gives, to be compared.
+
+use second_reader::record;
+
+/// What a check or a search answers.
+#[repr(C)]
+#[derive(Clone, Copy, Debug, PartialEq, Eq)]
+pub struct Answer {
+    pub number: u32,
+    pub length: u64,
+}
+
+/// What a call for the next record answers.
+#[repr(C)]
+#[derive(Clone, Copy, Debug, PartialEq, Eq)]
+pub struct Found {
+    pub number: u32,
+    pub offset: u64,
+}
+
+/// What a call for a record's stretch answers.
+#[repr(C)]
+#[derive(Clone, Copy, Debug, PartialEq, Eq)]
+pub struct Stretch {
+    pub number: u32,
+    pub offset: u64,
+    pub length: u64,
+}
+
+/// What a call for a record's fields answers.
+#[repr(C)]
+#[derive(Clone, Copy, Debug, PartialEq, Eq)]
+pub struct Fields {
+    pub number: u32,
+    pub record_number: u64,
+    pub written_time: u64,
+}
+
+/// What a call for a record's text answers.
+#[repr(C)]
+#[derive(Clone, Copy, Debug, PartialEq, Eq)]
+pub struct Text {
+    pub number: u32,
+    pub length: u64,
+}
+
+impl Answer {
+    /// Of a check.
+    pub fn without_length(number: u32) -> Answer {
+        Answer { number, length: 0 }
+    }
+}
+
+impl From<Result<u64, u32>> for Found {
+    fn from(next: Result<u64, u32>) -> Found {
+        match next {
+            Ok(offset) => Found { number: 0, offset },
+            Err(number) => Found { number, offset: 0 },
+        }
+    }
+}
+
+impl From<Result<record::Stretch, u32>> for Stretch {
+    fn from(stretch: Result<record::Stretch, u32>) -> Stretch {
+        match stretch {
+            Ok(record::Stretch { offset, length }) => Stretch { number: 0, offset, length },
+            Err(number) => Stretch { number, offset: 0, length: 0 },
+        }
+    }
+}
+
+impl From<Result<record::Fields, u32>> for Fields {
+    fn from(fields: Result<record::Fields, u32>) -> Fields {
+        match fields {
+            Ok(record::Fields { record_number, written_time }) => {
+                Fields { number: 0, record_number, written_time }
+            }
+            Err(number) => Fields { number, record_number: 0, written_time: 0 },
+        }
+    }
+}

@@ -1,0 +1,34 @@
+//! The C interface as include/evtx.h declares it.
+
+use crate::answers::{Answer, Fields, Found, Stretch, Text};
+
+// Not bundled: the archive is asked for where a program is linked that makes
+// calls, and nothing else needs it.
+#[link(name = "evtx_c", kind = "static", modifiers = "-bundle")]
+extern "C" {
+    pub fn evtx_check_file_header(header: *const u8, length: usize) -> Answer;
+    pub fn evtx_check_chunk(chunk: *const u8, length: usize) -> Answer;
+    pub fn evtx_search_chunk(
+        chunk: *const u8,
+        length: usize,
+        offsets: *mut u32,
+        room: usize,
+    ) -> Answer;
+    pub fn evtx_search_bytes(
+        bytes: *const u8,
+        length: usize,
+        offsets: *mut u32,
+        room: usize,
+    ) -> Answer;
+    pub fn evtx_next_in_chunk(chunk: *const u8, length: usize, from: u64) -> Found;
+    pub fn evtx_next_in_bytes(bytes: *const u8, length: usize, from: u64) -> Found;
+    pub fn evtx_record_stretch(chunk: *const u8, length: usize, offset: u64) -> Stretch;
+    pub fn evtx_record_fields(chunk: *const u8, length: usize, offset: u64) -> Fields;
+    pub fn evtx_record_text(
+        chunk: *const u8,
+        length: usize,
+        offset: u64,
+        out: *mut u8,
+        room: usize,
+    ) -> Text;
+}

@@ -1,0 +1,88 @@
+//! The first reader, through its C interface: the calls, on memory that tests
+//! lend them.
+
+pub mod answers;
+pub mod calls;
+
+use answers::{Answer, Fields, Found, Stretch, Text};
+use calls::*;
+use support::lent::Lent;
+
+/// Memory that a call can be lent.
+///
+/// # Safety
+///
+/// From `pointer` on there is memory of `length` entries, which lives at least
+/// as long as the value and which nothing else refers to while a call runs.
+pub unsafe trait Lendable<T> {
+    fn pointer(&mut self) -> *mut T;
+    fn length(&self) -> usize;
+}
+
+// Safety: the lent part is a part of the value's own vector.
+unsafe impl<T: Copy + PartialEq> Lendable<T> for Lent<T> {
+    fn pointer(&mut self) -> *mut T {
+        Lent::pointer(self)
+    }
+
+    fn length(&self) -> usize {
+        self.len()
+    }
+}
+
+// Safety: the entries are the vector's own.
+unsafe impl<T> Lendable<T> for Vec<T> {
+    fn pointer(&mut self) -> *mut T {
+        self.as_mut_ptr()
+    }
+
+    fn length(&self) -> usize {
+        self.len()
+    }
+}
+
+// Safety of every call below: pointer and length are those of lendable memory,
+// and no two parameters are the same memory, since each is a reference to it
+// that no other one can be beside.
+
+pub fn check_file_header(header: &mut impl Lendable<u8>) -> Answer {
+    unsafe { evtx_check_file_header(header.pointer(), header.length()) }
+}
+
+pub fn check_chunk(chunk: &mut impl Lendable<u8>) -> Answer {
+    unsafe { evtx_check_chunk(chunk.pointer(), chunk.length()) }
+}
+
+pub fn search_chunk(chunk: &mut impl Lendable<u8>, list: &mut impl Lendable<u32>) -> Answer {
+    unsafe { evtx_search_chunk(chunk.pointer(), chunk.length(), list.pointer(), list.length()) }
+}
+
+pub fn search_bytes(bytes: &mut impl Lendable<u8>, list: &mut impl Lendable<u32>) -> Answer {
+    unsafe { evtx_search_bytes(bytes.pointer(), bytes.length(), list.pointer(), list.length()) }
+}
+
+pub fn next_in_chunk(chunk: &mut impl Lendable<u8>, from: u64) -> Found {
+    unsafe { evtx_next_in_chunk(chunk.pointer(), chunk.length(), from) }
+}
+
+pub fn next_in_bytes(bytes: &mut impl Lendable<u8>, from: u64) -> Found {
+    unsafe { evtx_next_in_bytes(bytes.pointer(), bytes.length(), from) }
+}
+
+pub fn record_stretch(chunk: &mut impl Lendable<u8>, offset: u64) -> Stretch {
+    unsafe { evtx_record_stretch(chunk.pointer(), chunk.length(), offset) }
+}
+
+pub fn record_fields(chunk: &mut impl Lendable<u8>, offset: u64) -> Fields {
+    unsafe { evtx_record_fields(chunk.pointer(), chunk.length(), offset) }
+}
+
+pub fn record_text(
+    chunk: &mut impl Lendable<u8>,
+    offset: u64,
+    out: &mut impl Lendable<u8>,
+) -> Text {
+    unsafe {
+        evtx_record_text(chunk.pointer(), chunk.length(), offset, out.pointer(), out.length())
+    }
+}
