@@ -2,10 +2,10 @@
 //! seeds follow from one number.
 
 use crate::trial::{Calls, Case};
+use log_writer::{frame, put, Random, CHUNK, DATA, HEADER};
 use support::damage::*;
 use support::difference::{Difference, Outcome};
 use support::generate::*;
-use support::random::Random;
 
 /// The number for a run that is given none.
 pub const SEED: u64 = 0x0065_7674_7800_0001;
@@ -280,12 +280,12 @@ fn dense_chunk(random: &mut Random, _: usize) -> Vec<Input> {
 
 fn smallest_records(random: &mut Random, round: usize) -> Vec<Input> {
     let count = (CHUNK - DATA) / 28 - round;
-    let data: Vec<u8> = (0..count).flat_map(|_| record(random, 28)).collect();
+    let data: Vec<u8> = (0..count).flat_map(|_| random_record(random, 28)).collect();
     one(chunk_of(random, &data))
 }
 
 fn largest_record(random: &mut Random, round: usize) -> Vec<Input> {
-    let data = record(random, CHUNK - DATA - round);
+    let data = random_record(random, CHUNK - DATA - round);
     one(chunk_of(random, &data))
 }
 
@@ -311,7 +311,7 @@ fn short_bytes(random: &mut Random, _: usize) -> Vec<Input> {
 /// its end, down to no bytes at all.
 fn short_record(random: &mut Random, round: usize) -> Vec<Input> {
     let size = random.between(28, 36);
-    let mut bytes = record(random, size);
+    let mut bytes = random_record(random, size);
     bytes.extend(random.bytes(64));
     let behind = bytes.split_off(round);
     vec![Input { bytes, behind, calls: Calls::All }]
@@ -343,7 +343,7 @@ fn bytes_at_the_limit(random: &mut Random, round: usize) -> Vec<Input> {
     let length = if round % 3 == 2 { LIMIT + 1 } else { LIMIT };
     let mut bytes = match round {
         0 => vec![0; length],
-        1 => record(random, 28).repeat(LIMIT / 28),
+        1 => random_record(random, 28).repeat(LIMIT / 28),
         _ => dense_bytes(random, 100_000).repeat(LIMIT / 100_000),
     };
     bytes.resize(length, 0);

@@ -11,7 +11,7 @@ mod stock;
 mod trees;
 
 use crate::question::Question;
-use support::random::Random;
+use log_writer::Random;
 
 pub use chunks::{chunk as sound_chunk, seal, Made};
 pub use samples::{damaged_sample, read_sample, sample_path, SAMPLES};

@@ -7,4 +7,3 @@ pub mod files;
 pub mod generated;
 pub mod hand;
 pub mod question;
-pub mod writer;

@@ -4,6 +4,7 @@
 use first_reader::answers::{Answer, Fields, Found, Stretch, Text};
 use first_reader::calls::evtx_search_bytes;
 use guard_pages::fenced::{Edge, Fenced, EDGES};
+use log_writer::{frame, put, Random, CHUNK, DATA};
 use second_reader::binxml::{read_record, record_text};
 use second_reader::{header, record};
 use std::collections::BTreeSet;
@@ -12,7 +13,6 @@ use std::process::Command;
 use support::damage::*;
 use support::generate::*;
 use support::offsets::worth_asking;
-use support::random::Random;
 
 const SEED: u64 = 0x0065_7674_7800_0004;
 /// An entry of a list or bytes of an output that no answer holds.
@@ -51,7 +51,7 @@ fn inputs() -> Vec<Vec<u8>> {
         all.push(bytes);
     }
     for length in 0..100 {
-        let bytes = record(random, 28 + length % 9).repeat(4);
+        let bytes = random_record(random, 28 + length % 9).repeat(4);
         all.push(bytes[..length].to_vec());
     }
     for _ in 0..60 {

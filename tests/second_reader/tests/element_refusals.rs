@@ -4,16 +4,8 @@
 mod common;
 
 use common::*;
+use log_writer::*;
 use second_reader::binxml::record_text;
-
-fn refusal(chunk: &[u8]) -> (u32, u64) {
-    let refusal = record_text(chunk, 512, 65_536).expect_err("a refused record");
-    (refusal.number, refusal.place)
-}
-
-fn text(chunk: &[u8]) -> String {
-    String::from_utf8(record_text(chunk, 512, 65_536).expect("a sound record")).unwrap()
-}
 
 /// `<P a="x">y</P>` without an instance: element 540, length 543, name
 /// pointer 547, name 551, unit count 557, unit 559, list length 563,
@@ -24,14 +16,8 @@ fn example() -> Vec<u8> {
     let made = body(|w| {
         w.element(0x41, |w| {
             w.name("P");
-            w.counted(|w| {
-                w.put(&[0x06]);
-                w.name("a");
-                w.literal("x");
-            });
-            w.put(&[0x02]);
-            w.literal("y");
-            w.put(&[0x04]);
+            w.counted(|w| w.attribute("a", |w| w.literal("x")));
+            w.items(|w| w.literal("y"));
         });
     });
     assert_eq!(made.here(), 598);
@@ -48,7 +34,7 @@ fn with_byte(at: usize, byte: u8) -> (u32, u64) {
 
 fn with_u32(at: usize, number: u32) -> (u32, u64) {
     let mut chunk = example();
-    set_u32(&mut chunk, at, number);
+    put_u32(&mut chunk, at, number);
     refusal(&chunk)
 }
 
@@ -170,7 +156,7 @@ fn names() {
 #[test]
 fn later_units_of_a_name() {
     let with_name = |name: &str| {
-        let made = body(|w| w.simple(name, |_| ()));
+        let made = body(|w| w.open(name, |_| ()));
         record_text(&chunk_of(&made), 512, 99).map_err(|refusal| (refusal.number, refusal.place))
     };
     assert_eq!(with_name("a-._:09Zz").unwrap(), b"<a-._:09Zz></a-._:09Zz>");
@@ -200,7 +186,7 @@ fn a_name_pointed_to_is_not_stepped_over() {
     let mut chunk = example();
     // The element takes the attribute's name; its own name's bytes stay and
     // are then read as the list length, 0.
-    set_u32(&mut chunk, 547, 572);
+    put_u32(&mut chunk, 547, 572);
     assert_eq!(refusal(&chunk), (8, 555));
 }
 
@@ -241,7 +227,7 @@ fn with_items(items: &[u8], kind: u8) -> (u32, u64, u64) {
             end = w.here() as u64;
         });
     };
-    let made = body(|w| w.instance(element, &[(kind, &[0])]));
+    let made = body(|w| w.instance(element, &[plain(kind, [0])]));
     let (number, place) = refusal(&chunk_of(&made));
     (number, place, end)
 }
@@ -271,7 +257,7 @@ fn a_fragment_without_an_instance_has_no_values() {
     for token in [0x0d, 0x0e] {
         let mut place = 0;
         let made = body(|w| {
-            w.simple("P", |w| {
+            w.open("P", |w| {
                 place = w.here() as u64 + 1;
                 w.substitution(token, 0);
             });
@@ -284,20 +270,17 @@ fn a_fragment_without_an_instance_has_no_values() {
 fn inner_elements_stay_inside_outer_ones() {
     let mut inner_length = 0;
     let made = body(|w| {
-        w.simple("O", |w| {
+        w.open("O", |w| {
             inner_length = w.here() + 3;
-            w.element(0x01, |w| {
-                w.name("i");
-                w.put(&[0x03]);
-            });
+            w.empty("i");
         });
         w.put(&[0; 20]);
     });
     let mut chunk = chunk_of(&made);
     assert_eq!(text(&chunk), "<O><i/></O>");
     // One byte more takes the outer 04; two leave the outer element.
-    set_u32(&mut chunk, inner_length, 18);
+    put_u32(&mut chunk, inner_length, 18);
     assert_eq!(refusal(&chunk).1, inner_length as u64 + 4 + 16);
-    set_u32(&mut chunk, inner_length, 19);
+    put_u32(&mut chunk, inner_length, 19);
     assert_eq!(refusal(&chunk), (8, inner_length as u64));
 }

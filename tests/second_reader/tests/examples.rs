@@ -3,6 +3,7 @@
 mod common;
 
 use common::*;
+use log_writer::*;
 use second_reader::binxml::record_text;
 use second_reader::listing::listing;
 use second_reader::numbers::Refusal;
@@ -11,9 +12,7 @@ use second_reader::record::{search_bytes, search_chunk, whole_record};
 /// The record of the first example, byte by byte as document 01 gives it.
 fn first_record() -> Vec<u8> {
     let mut bytes = vec![0; 110];
-    let mut put = |offset: usize, part: &[u8]| {
-        bytes[offset - 512..offset - 512 + part.len()].copy_from_slice(part);
-    };
+    let mut put = |offset: usize, part: &[u8]| put(&mut bytes, offset - 512, part);
     put(512, &[0x2a, 0x2a, 0, 0, 110, 0, 0, 0, 1]);
     put(536, &[0x0f, 1, 1, 0]);
     put(540, &[0x0c, 1, 0, 0, 0, 0]);
@@ -55,7 +54,7 @@ fn first_listing() {
 /// The first example with another descriptor type and value.
 fn with_value(kind: u8, value: &[u8]) -> Vec<u8> {
     let body = body(|w| {
-        w.instance(|w| w.simple("P", |w| w.substitution(0x0d, 0)), &[(kind, value)]);
+        w.instance(|w| w.open("P", |w| w.substitution(0x0d, 0)), &[plain(kind, value)]);
     });
     chunk_of(&body)
 }
@@ -88,8 +87,7 @@ fn sizes_28_and_27() {
     assert_eq!(whole_record(&chunk, 512), Some(28));
     assert_eq!(number(&chunk, 65_536), 8);
     let mut chunk = vec![0; 65_536];
-    chunk[512..520].copy_from_slice(&[0x2a, 0x2a, 0, 0, 27, 0, 0, 0]);
-    set_u32(&mut chunk, 512 + 23, 27);
+    frame(&mut chunk, 512, 27);
     assert_eq!(whole_record(&chunk, 512), None);
     assert_eq!(number(&chunk, 65_536), 7);
 }
@@ -97,15 +95,15 @@ fn sizes_28_and_27() {
 #[test]
 fn pointer_511() {
     let mut chunk = chunk_with(512, &first_record());
-    set_u32(&mut chunk, 546, 511);
+    put_u32(&mut chunk, 546, 511);
     assert_eq!(text(&chunk, 65_536), Err(Refusal { number: 9, place: 546 }));
 }
 
 #[test]
 fn value_counts() {
     let with_count = |count: usize| {
-        let values = vec![(0x00, &[][..]); count];
-        chunk_of(&body(|w| w.instance(|w| w.simple("P", |_| ()), &values)))
+        let values: Vec<Value> = (0..count).map(|_| plain(0x00, [])).collect();
+        chunk_of(&body(|w| w.instance(|w| w.open("P", |_| ()), &values)))
     };
     assert_eq!(text(&with_count(256), 65_536).unwrap(), "<P></P>");
     assert_eq!(number(&with_count(257), 65_536), 12);

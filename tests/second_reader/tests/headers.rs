@@ -3,6 +3,7 @@
 mod common;
 
 use common::*;
+use log_writer::*;
 use second_reader::checksum::crc32;
 use second_reader::header::{check_chunk, check_file_header};
 
@@ -71,7 +72,7 @@ fn chunk_length_and_free_space() {
     assert_eq!(check_chunk(&[]), 1);
     for (free, number) in [(0, 4), (511, 4), (512, 0), (65_536, 0), (65_537, 4), (u32::MAX, 4)] {
         let mut chunk = sound_chunk();
-        set_u32(&mut chunk, 48, free);
+        put_u32(&mut chunk, 48, free);
         if number == 0 {
             seal_sums(&mut chunk);
         }

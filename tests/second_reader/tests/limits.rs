@@ -4,6 +4,7 @@
 mod common;
 
 use common::*;
+use log_writer::*;
 use second_reader::binxml::{read_record, record_text};
 use second_reader::numbers::Refusal;
 
@@ -14,16 +15,10 @@ fn answer(chunk: &[u8]) -> Result<usize, Refusal> {
 /// Elements inside each other; notes the place of the deepest one's token.
 fn deep(w: &mut Writer, depth: usize, place: &mut usize) {
     *place = w.here();
-    w.element(0x01, |w| {
-        w.name("e");
-        if depth == 1 {
-            w.put(&[0x03]);
-        } else {
-            w.put(&[0x02]);
-            deep(w, depth - 1, place);
-            w.put(&[0x04]);
-        }
-    });
+    match depth {
+        1 => w.empty("e"),
+        _ => w.open("e", |w| deep(w, depth - 1, place)),
+    }
 }
 
 #[test]
@@ -43,9 +38,9 @@ fn nested_fragments(fragments: usize, elements_each: usize) -> (Vec<u8>, Vec<usi
     let mut value: Vec<u8> = Vec::new();
     for level in (1..=fragments).rev() {
         let kind = if level == fragments { 0x00 } else { 0x21 };
-        let mut writer = Writer::at(0);
+        let mut writer = writer_at(0);
         writer.stream_header();
-        writer.pointing_instance(40_000, &[(kind, &value)]);
+        writer.pointing(40_000, &[plain(kind, value)]);
         value = writer.bytes;
     }
     for level in 1..fragments {
@@ -53,14 +48,14 @@ fn nested_fragments(fragments: usize, elements_each: usize) -> (Vec<u8>, Vec<usi
         starts.push(BODY + 22 * level);
     }
     let mut chunk = chunk_with(512, &record(1, &value));
-    let mut free = Writer::at(40_000);
+    let mut free = writer_at(40_000);
     free.bare_definition(|w| layers(w, elements_each));
-    chunk[40_000..40_000 + free.bytes.len()].copy_from_slice(&free.bytes);
+    put(&mut chunk, 40_000, &free.bytes);
     (chunk, starts)
 }
 
 fn layers(w: &mut Writer, left: usize) {
-    w.simple("e", |w| match left {
+    w.open("e", |w| match left {
         1 => w.substitution(0x0d, 0),
         _ => layers(w, left - 1),
     });
@@ -102,32 +97,18 @@ fn an_empty_bin_xml_value_tests_no_limit() {
 /// A record of 1 + 255 * (1 + 1 + 255) = 65,536 counted things, and `more`
 /// literals at the end.
 fn counted(more: usize) -> (Vec<u8>, usize) {
-    let inner = |w: &mut Writer| {
-        w.put(&[0x01]);
-        w.counted(|w| {
-            w.name("i");
-            w.put(&[0x02]);
-            (0..255).for_each(|_| w.literal(""));
-            w.put(&[0x04]);
-        });
-    };
+    let inner = |w: &mut Writer| w.open("i", |w| (0..255).for_each(|_| w.literal("")));
     let mut place = 0;
-    let mut with = |value: &[u8]| {
-        body(|w| {
-            let element = |w: &mut Writer| {
-                w.simple("O", |w| {
-                    (0..255).for_each(|_| w.substitution(0x0d, 0));
-                    place = w.here();
-                    (0..more).for_each(|_| w.literal(""));
-                });
-            };
-            w.instance(element, &[(0x21, value)]);
-        })
-    };
-    let mut value = Writer::at(with(&[]).here());
-    value.stream_header();
-    inner(&mut value);
-    let made = with(&value.bytes);
+    let made = body(|w| {
+        let element = |w: &mut Writer| {
+            w.open("O", |w| {
+                (0..255).for_each(|_| w.substitution(0x0d, 0));
+                place = w.here();
+                (0..more).for_each(|_| w.literal(""));
+            });
+        };
+        w.instance(element, &[Value::Fragment(&inner)]);
+    });
     (chunk_of(&made), place)
 }
 
@@ -153,17 +134,14 @@ fn the_limit_is_tested_before_the_fields_of_the_token() {
 /// `inner` times over, and the length of that text.
 fn long_text(outer: usize, inner: usize, units: usize) -> (Vec<u8>, u64) {
     let string = utf16(&"\"".repeat(units));
-    let mut value = Writer::at(0);
-    value.stream_header();
-    value.pointing_instance(50_000, &[(0x01, &string)]);
-    let made = body(|w| w.pointing_instance(40_000, &[(0x21, &value.bytes)]));
-    let mut chunk = chunk_of(&made);
+    let value = |w: &mut Writer| w.pointing(50_000, &[plain(0x01, &string[..])]);
+    let mut chunk = chunk_of(&body(|w| w.pointing(40_000, &[Value::Fragment(&value)])));
     for (at, times) in [(40_000, outer), (50_000, inner)] {
-        let mut free = Writer::at(at);
+        let mut free = writer_at(at);
         free.bare_definition(|w| {
-            w.simple("e", |w| (0..times).for_each(|_| w.substitution(0x0d, 0)));
+            w.open("e", |w| (0..times).for_each(|_| w.substitution(0x0d, 0)));
         });
-        chunk[at..at + free.bytes.len()].copy_from_slice(&free.bytes);
+        put(&mut chunk, at, &free.bytes);
     }
     let inner_length = 7 + inner as u64 * units as u64 * 6;
     (chunk, 7 + outer as u64 * inner_length)

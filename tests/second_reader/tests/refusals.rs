@@ -4,13 +4,9 @@
 mod common;
 
 use common::*;
+use log_writer::*;
 use second_reader::binxml::record_text;
 use second_reader::numbers::Refusal;
-
-fn refusal(chunk: &[u8]) -> (u32, u64) {
-    let refusal = record_text(chunk, 512, 65_536).expect_err("a refused record");
-    (refusal.number, refusal.place)
-}
 
 /// The refusal of the sound body cut to `kept` bytes.
 fn cut(made: &Writer, kept: usize) -> (u32, u64) {
@@ -26,7 +22,7 @@ fn with_byte(made: &Writer, at: usize, byte: u8) -> (u32, u64) {
 
 fn with_u32(made: &Writer, at: usize, number: u32) -> (u32, u64) {
     let mut chunk = chunk_of(made);
-    set_u32(&mut chunk, at, number);
+    put_u32(&mut chunk, at, number);
     refusal(&chunk)
 }
 
@@ -36,7 +32,7 @@ fn with_u32(made: &Writer, at: usize, number: u32) -> (u32, u64) {
 /// 602, 04 606, 00 607, count 608, descriptor 612, value 616, end 618.
 fn example() -> Writer {
     body(|w| {
-        w.instance(|w| w.simple("P", |w| w.substitution(0x0d, 0)), &[(0x05, &[0, 0x80])]);
+        w.instance(|w| w.open("P", |w| w.substitution(0x0d, 0)), &[plain(0x05, [0, 0x80])]);
     })
 }
 
@@ -105,10 +101,10 @@ fn definition_pointers() {
     let mut chunk = chunk_of(&example());
     // At the chunk's end: the fixed part fits, and data of size 0; then the
     // definition is pointed to, and 550 is where the value count stands.
-    set_u32(&mut chunk, 546, 65_512);
-    set_u32(&mut chunk, 550, 0);
+    put_u32(&mut chunk, 546, 65_512);
+    put_u32(&mut chunk, 550, 0);
     assert_eq!(refusal(&chunk), (8, 65_536));
-    set_u32(&mut chunk, 65_532, 1);
+    put_u32(&mut chunk, 65_532, 1);
     assert_eq!(refusal(&chunk), (9, 546));
 }
 
@@ -127,7 +123,8 @@ fn value_counts_and_sizes() {
     assert_eq!(with_u32(&example(), 608, 256), (8, 608));
     assert_eq!(with_u32(&example(), 608, 2), (8, 608));
     assert_eq!(with_byte(&example(), 612, 3), (8, 612));
-    let two = body(|w| w.instance(|w| w.simple("P", |_| ()), &[(0x04, &[1]), (0x04, &[1])]));
+    let values = [plain(0x04, [1]), plain(0x04, [1])];
+    let two = body(|w| w.instance(|w| w.open("P", |_| ()), &values));
     let first_descriptor = two.here() - 10;
     assert_eq!(with_byte(&two, first_descriptor + 4, 2), (8, first_descriptor as u64 + 4));
     assert_eq!(with_byte(&two, first_descriptor, 2), (8, first_descriptor as u64 + 4));
@@ -138,7 +135,7 @@ fn value_counts_and_sizes() {
 fn values_are_tested_before_the_definitions_content() {
     let mut chunk = chunk_of(&example());
     chunk[574] = 0xff;
-    set_u32(&mut chunk, 608, 257);
+    put_u32(&mut chunk, 608, 257);
     assert_eq!(refusal(&chunk), (12, 608));
 }
 
@@ -148,8 +145,8 @@ fn the_definitions_data() {
     // value count then stands earlier, and is set to 0.
     for (size, place) in [(0, 574), (3, 577), (4, 578)] {
         let mut chunk = chunk_of(&example());
-        set_u32(&mut chunk, 570, size);
-        set_u32(&mut chunk, 574 + size as usize, 0);
+        put_u32(&mut chunk, 570, size);
+        put_u32(&mut chunk, 574 + size as usize, 0);
         assert_eq!(refusal(&chunk), (8, place));
     }
     assert_eq!(with_byte(&example(), 607, 0x01), (8, 607));
@@ -157,39 +154,31 @@ fn the_definitions_data() {
 
 #[test]
 fn the_closing_00_of_a_definition() {
-    let mut free = Writer::at(40_000);
-    free.bare_definition(|w| w.simple("P", |_| ()));
+    let mut free = writer_at(40_000);
+    free.bare_definition(|w| w.open("P", |_| ()));
     let end = free.here();
-    let mut chunk = chunk_of(&body(|w| w.pointing_instance(40_000, &[])));
-    chunk[40_000..end].copy_from_slice(&free.bytes);
+    let mut chunk = chunk_of(&body(|w| w.pointing(40_000, &[])));
+    put(&mut chunk, 40_000, &free.bytes);
     assert_eq!(record_text(&chunk, 512, 9).unwrap(), b"<P></P>");
     let size = end - 40_024;
-    set_u32(&mut chunk, 40_020, size as u32 - 1);
+    put_u32(&mut chunk, 40_020, size as u32 - 1);
     assert_eq!(refusal(&chunk), (8, end as u64 - 1));
-    set_u32(&mut chunk, 40_020, size as u32);
+    put_u32(&mut chunk, 40_020, size as u32);
     chunk[end - 1] = 0x0f;
     assert_eq!(refusal(&chunk), (8, end as u64 - 1));
 }
 
 /// A record whose definition shows its one value in an element's content.
 fn shown(kind: u8, value: &[u8]) -> Writer {
-    body(|w| w.instance(|w| w.simple("P", |w| w.substitution(0x0d, 0)), &[(kind, value)]))
+    body(|w| w.instance(|w| w.open("P", |w| w.substitution(0x0d, 0)), &[plain(kind, value)]))
 }
 
 /// The same in an attribute.
 fn in_attribute(kind: u8, value: &[u8]) -> Writer {
     let element = |w: &mut Writer| {
-        w.element(0x41, |w| {
-            w.name("P");
-            w.counted(|w| {
-                w.put(&[0x06]);
-                w.name("a");
-                w.substitution(0x0e, 0);
-            });
-            w.put(&[0x03]);
-        });
+        w.with_attributes("P", |w| w.attribute("a", |w| w.substitution(0x0e, 0)));
     };
-    body(|w| w.instance(element, &[(kind, value)]))
+    body(|w| w.instance(element, &[plain(kind, value)]))
 }
 
 #[test]
@@ -238,15 +227,13 @@ fn fragments_in_values() {
 #[test]
 fn elements_of_a_value_have_no_unread_bytes_and_no_values() {
     let start = shown(0x21, &[]).here();
-    let mut value = Writer::at(start);
-    value.stream_header();
+    let mut value = writer_at(start);
     let mut place = 0;
-    value.bare_element(0x01, |w| {
-        w.name("i");
-        w.put(&[0x02]);
-        place = w.here() as u64 + 1;
-        w.substitution(0x0e, 0);
-        w.put(&[0x04]);
+    value.fragment(|w| {
+        w.open("i", |w| {
+            place = w.here() as u64 + 1;
+            w.substitution(0x0e, 0);
+        });
     });
     assert_eq!(refusal(&chunk_of(&shown(0x21, &value.bytes))), (10, place));
 }

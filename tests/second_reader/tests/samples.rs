@@ -2,12 +2,12 @@
 
 mod common;
 
+use common::read_sample;
 use second_reader::listing::listing;
 
 fn check(name: &str) {
-    let folder = common::samples();
-    let log = std::fs::read(folder.join(format!("{name}.evtx"))).unwrap();
-    let expected = std::fs::read(folder.join(format!("{name}.listing"))).unwrap();
+    let log = read_sample(&format!("{name}.evtx"));
+    let expected = read_sample(&format!("{name}.listing"));
     let got = listing(&log);
     let equal = got.iter().zip(&expected).take_while(|(a, b)| a == b).count();
     let line = expected[..equal].iter().filter(|byte| **byte == 10).count() + 1;

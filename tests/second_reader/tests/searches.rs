@@ -1,16 +1,12 @@
 //! Whole records, both searches, the next record, stretch and fields.
 
-mod common;
-
-use common::*;
+use log_writer::*;
 use second_reader::record::*;
 
 /// A record of the given stated size, with both copies of it.
 fn sized(size: u32) -> Vec<u8> {
     let mut bytes = vec![0x11; size as usize];
-    bytes[0..4].copy_from_slice(&[0x2a, 0x2a, 0, 0]);
-    set_u32(&mut bytes, 4, size);
-    set_u32(&mut bytes, size as usize - 4, size);
+    frame(&mut bytes, 0, size as usize);
     bytes
 }
 
@@ -77,8 +73,8 @@ fn the_most_records_of_a_chunk() {
 #[test]
 fn a_second_size_that_disagrees_is_no_jump() {
     let mut broken = sized(100);
-    broken[40..68].copy_from_slice(&sized(28));
-    set_u32(&mut broken, 96, 99);
+    put(&mut broken, 40, &sized(28));
+    put_u32(&mut broken, 96, 99);
     let chunk = chunk_with(512, &[broken, sized(30)].concat());
     assert_eq!(search_chunk(&chunk, 9), Ok(vec![552, 612]));
 }
@@ -86,7 +82,7 @@ fn a_second_size_that_disagrees_is_no_jump() {
 #[test]
 fn a_record_inside_another_is_next_but_not_listed() {
     let mut outer = sized(100);
-    outer[40..68].copy_from_slice(&sized(28));
+    put(&mut outer, 40, &sized(28));
     let chunk = chunk_with(512, &outer);
     assert_eq!(search_chunk(&chunk, 9), Ok(vec![512]));
     assert_eq!(next_in_chunk(&chunk, 512), Ok(512));
@@ -121,7 +117,7 @@ fn records_that_end_at_the_last_byte() {
 #[test]
 fn stretch_and_fields() {
     let mut bytes = record(0x8877_6655_4433_2211, &[1, 2, 3]);
-    bytes[16..24].copy_from_slice(&[1, 2, 3, 4, 5, 6, 7, 8]);
+    put(&mut bytes, 16, &[1, 2, 3, 4, 5, 6, 7, 8]);
     let chunk = chunk_with(777, &bytes);
     assert_eq!(record_stretch(&chunk, 777), Ok(Stretch { offset: 801, length: 3 }));
     let fields =

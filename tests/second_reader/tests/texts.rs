@@ -3,23 +3,20 @@
 mod common;
 
 use common::*;
+use log_writer::*;
 use second_reader::binxml::record_text;
 use second_reader::listing::listing;
 
 fn text_of(body: &Writer) -> String {
-    let bytes = record_text(&chunk_of(body), 512, 65_536).expect("a sound record");
-    String::from_utf8(bytes).unwrap()
+    text(&chunk_of(body))
 }
 
 #[test]
 fn elements_without_an_instance() {
     let both = body(|w| {
-        w.simple("a", |w| {
+        w.open("a", |w| {
             w.literal("x<");
-            w.element(0x01, |w| {
-                w.name("b:c");
-                w.put(&[0x03]);
-            });
+            w.empty("b:c");
             w.put(&[0x45, 0x01, 1, 0, b'y', 0]);
         });
         w.put(&[0xaa; 9]);
@@ -28,24 +25,14 @@ fn elements_without_an_instance() {
 }
 
 /// The text of an element with one attribute, whose items are given.
-fn attribute(values: &[(u8, &[u8])], items: impl FnOnce(&mut Writer)) -> String {
-    let with_attribute = |w: &mut Writer| {
-        w.element(0x41, |w| {
-            w.name("P");
-            w.counted(|w| {
-                w.put(&[0x06]);
-                w.name("a");
-                items(w);
-            });
-            w.put(&[0x03]);
-        });
-    };
-    text_of(&body(|w| w.instance(with_attribute, values)))
+fn attribute(values: &[Value], items: impl FnOnce(&mut Writer)) -> String {
+    let element = |w: &mut Writer| w.with_attributes("P", |w| w.attribute("a", items));
+    text_of(&body(|w| w.instance(element, values)))
 }
 
 #[test]
 fn attributes_left_out() {
-    let null: &[(u8, &[u8])] = &[(0x00, &[]), (0x01, &[]), (0x00, &[1, 2])];
+    let null = &[plain(0x00, []), plain(0x01, []), plain(0x00, [1, 2])];
     assert_eq!(attribute(null, |w| w.substitution(0x0e, 0)), "<P/>");
     assert_eq!(attribute(null, |w| w.substitution(0x0e, 2)), "<P/>");
     assert_eq!(attribute(null, |w| w.substitution(0x0d, 0)), "<P a=\"\"/>");
@@ -81,32 +68,19 @@ fn several_attributes_of_one_name() {
         w.element(0x41, |w| {
             w.name("P");
             w.counted(several);
-            w.put(&[0x02]);
-            w.substitution(0x0e, 1);
-            w.put(&[0x04]);
+            w.items(|w| w.substitution(0x0e, 1));
         });
     };
-    let made = body(|w| w.instance(element, &[(0x04, &[7]), (0x00, &[])]));
+    let made = body(|w| w.instance(element, &[plain(0x04, [7]), plain(0x00, [])]));
     assert_eq!(text_of(&made), "<P a=\"17\" a=\"&quot;\"></P>");
 }
 
 #[test]
 fn a_left_out_attribute_needs_no_room() {
-    let made = body(|w| {
-        let element = |w: &mut Writer| {
-            w.element(0x41, |w| {
-                w.name("P");
-                w.counted(|w| {
-                    w.put(&[0x06]);
-                    w.name("a.long.name");
-                    w.substitution(0x0e, 0);
-                });
-                w.put(&[0x03]);
-            });
-        };
-        w.instance(element, &[(0x00, &[])]);
-    });
-    let chunk = chunk_of(&made);
+    let element = |w: &mut Writer| {
+        w.with_attributes("P", |w| w.attribute("a.long.name", |w| w.substitution(0x0e, 0)));
+    };
+    let chunk = chunk_of(&body(|w| w.instance(element, &[plain(0x00, [])])));
     assert_eq!(record_text(&chunk, 512, 4).unwrap(), b"<P/>");
     assert_eq!(record_text(&chunk, 512, 3).unwrap_err().number, 13);
 }
@@ -114,73 +88,52 @@ fn a_left_out_attribute_needs_no_room() {
 #[test]
 fn pairs_split_over_two_items() {
     let made = body(|w| {
-        w.simple("P", |w| {
-            w.put(&[0x05, 0x01, 1, 0, 0x00, 0xd8]);
-            w.put(&[0x05, 0x01, 1, 0, 0x00, 0xdc]);
+        w.open("P", |w| {
+            w.units(&[0xd800]);
+            w.units(&[0xdc00]);
         });
     });
     assert_eq!(text_of(&made), "<P>\u{FFFD}\u{FFFD}</P>");
 }
 
-/// The bytes of a BinXml value that will stand at `at`.
-fn value_at(at: usize, inside: impl FnOnce(&mut Writer)) -> Vec<u8> {
-    let mut writer = Writer::at(at);
-    writer.stream_header();
-    inside(&mut writer);
-    writer.bytes
-}
-
 /// A record whose definition shows values 0 and 1 in an element; value 0 is
 /// the BinXml fragment that `inside` writes.
-fn nested(inside: impl Fn(&mut Writer) + Copy) -> Writer {
+fn nested(inside: &dyn Fn(&mut Writer)) -> Writer {
     let element = |w: &mut Writer| {
-        w.simple("O", |w| {
+        w.open("O", |w| {
             w.substitution(0x0d, 0);
             w.substitution(0x0e, 1);
         });
     };
-    let with = |value: &[u8]| body(|w| w.instance(element, &[(0x21, value), (0x21, &[])]));
-    // The value's length does not move its start.
-    let start = with(&[]).here();
-    with(&value_at(start, inside))
+    body(|w| w.instance(element, &[Value::Fragment(inside), plain(BIN_XML, [])]))
 }
 
 #[test]
 fn fragments_in_values() {
-    let bare = nested(|w| {
-        w.bare_element(0x01, |w| {
-            w.name("i");
-            w.put(&[0x02]);
-            w.bare_element(0x01, |w| {
-                w.name("j");
-                w.put(&[0x03]);
-            });
-            w.put(&[0x04]);
-        });
+    let bare = nested(&|w| {
+        w.open("i", |w| w.empty("j"));
         w.put(&[0x77]);
     });
     assert_eq!(text_of(&bare), "<O><i><j/></i></O>");
-    let instance = nested(|w| {
-        w.instance(|w| w.simple("i", |w| w.substitution(0x0d, 0)), &[(0x08, &[5, 0, 0, 0])]);
+    let instance = nested(&|w| {
+        w.instance(|w| w.open("i", |w| w.substitution(0x0d, 0)), &[plain(0x08, [5, 0, 0, 0])]);
     });
     assert_eq!(text_of(&instance), "<O><i>5</i></O>");
 }
 
 #[test]
 fn names_and_definitions_elsewhere() {
-    let mut free = Writer::at(40_000);
+    let mut free = writer_at(40_000);
     free.bare_name("far");
     let definition_at = free.here();
     free.bare_definition(|w| {
         w.element(0x01, |w| {
-            w.u32(40_000);
-            w.put(&[0x02]);
-            w.substitution(0x0d, 0);
-            w.put(&[0x04]);
+            w.pointer(40_000);
+            w.items(|w| w.substitution(0x0d, 0));
         });
     });
-    let mut chunk = chunk_of(&body(|w| w.pointing_instance(definition_at, &[(0x04, &[9])])));
-    chunk[40_000..40_000 + free.bytes.len()].copy_from_slice(&free.bytes);
+    let mut chunk = chunk_of(&body(|w| w.pointing(definition_at, &[plain(0x04, [9])])));
+    put(&mut chunk, 40_000, &free.bytes);
     assert_eq!(record_text(&chunk, 512, 65_536).unwrap(), b"<far>9</far>");
 }
 
@@ -195,7 +148,7 @@ fn listing_of_short_and_refused_files() {
 
 #[test]
 fn records_beyond_the_free_space() {
-    let first = record(u64::MAX, &body(|w| w.simple("P", |_| ())).bytes);
+    let first = record(u64::MAX, &body(|w| w.open("P", |_| ())).bytes);
     let second_at = 512 + first.len();
     let mut chunk = chunk_with(512, &[first, record(5, &[])].concat());
     let file = |chunk: &[u8]| [&[0; 4_096][..], chunk, chunk].concat();
@@ -218,13 +171,12 @@ fn records_beyond_the_free_space() {
 #[test]
 fn texts_longer_than_the_listing_room() {
     let element = |w: &mut Writer| {
-        w.simple("P", |w| {
+        w.open("P", |w| {
             w.substitution(0x0d, 0);
             w.substitution(0x0d, 0);
         });
     };
-    let binary = |size: usize| vec![1; size];
-    let with = |size| body(|w| w.instance(element, &[(0x0e, &binary(size))]));
+    let with = |size: usize| body(|w| w.instance(element, &[plain(0x0e, vec![1; size])]));
     let chunk = chunk_of(&with(16_382));
     assert_eq!(record_text(&chunk, 512, 65_536).unwrap().len(), 65_535);
     let chunk = chunk_of(&with(16_383));

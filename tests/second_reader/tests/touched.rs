@@ -4,6 +4,7 @@
 mod common;
 
 use common::*;
+use log_writer::*;
 use second_reader::binxml::{read_record, record_text};
 use second_reader::listing::listing;
 use second_reader::record::{next_in_chunk, search_chunk};
@@ -23,8 +24,8 @@ fn no_reading_touches_nothing() {
 /// A record at 512 with 18 bytes of binary XML, whose instance points to
 /// `pointer`; a definition of `size` bytes of data stands at 40,000.
 fn pointing(pointer: usize, size: u32) -> Vec<u8> {
-    let mut chunk = chunk_of(&body(|w| w.pointing_instance(pointer, &[])));
-    set_u32(&mut chunk, 40_020, size);
+    let mut chunk = chunk_of(&body(|w| w.pointing(pointer, &[])));
+    put_u32(&mut chunk, 40_020, size);
     chunk
 }
 
@@ -42,7 +43,7 @@ fn definitions() {
 #[test]
 fn definitions_before_a_later_refusal() {
     let mut chunk = pointing(40_000, 5);
-    set_u32(&mut chunk, 550, 257);
+    put_u32(&mut chunk, 550, 257);
     assert_eq!(record_text(&chunk, 512, 0).unwrap_err().number, 12);
     assert_eq!(touched(&chunk), [(512, 558), (40_000, 40_029)]);
 }
@@ -52,11 +53,11 @@ fn definitions_before_a_later_refusal() {
 fn named(pointer: usize, count: u16) -> Vec<u8> {
     let mut chunk = chunk_of(&body(|w| {
         w.element(0x01, |w| {
-            w.u32(pointer);
-            w.put(&[0x03]);
+            w.pointer(pointer);
+            w.token(0x03);
         });
     }));
-    chunk[40_006..40_008].copy_from_slice(&count.to_le_bytes());
+    put(&mut chunk, 40_006, &count.to_le_bytes());
     chunk
 }
 
@@ -76,7 +77,7 @@ fn names() {
 fn sample_chunks() -> Vec<Vec<u8>> {
     let mut chunks = Vec::new();
     for name in ["panel", "windows", "powercut"] {
-        let log = std::fs::read(samples().join(format!("{name}.evtx"))).unwrap();
+        let log = read_sample(&format!("{name}.evtx"));
         chunks.extend(log[4_096..].chunks_exact(65_536).map(<[u8]>::to_vec));
     }
     chunks
@@ -84,7 +85,7 @@ fn sample_chunks() -> Vec<Vec<u8>> {
 
 /// The chunk with every byte that is not touched replaced.
 fn others_replaced(chunk: &[u8], touched: &[(usize, usize)], random: &mut Random) -> Vec<u8> {
-    let mut other: Vec<u8> = (0..65_536).map(|_| random.next() as u8).collect();
+    let mut other = random.bytes(65_536);
     for (start, end) in touched {
         other[*start..*end].copy_from_slice(&chunk[*start..*end]);
     }
@@ -101,7 +102,7 @@ fn damage(chunk: &mut [u8], start: usize, end: usize, random: &mut Random) {
 
 #[test]
 fn answers_depend_on_touched_bytes_only() {
-    let mut random = Random(1);
+    let mut random = Random::new(1);
     let chunks = sample_chunks();
     for _ in 0..300 {
         let mut chunk = chunks[random.below(chunks.len())].clone();
@@ -120,7 +121,7 @@ fn answers_depend_on_touched_bytes_only() {
 
 #[test]
 fn any_bytes_are_answered() {
-    let mut random = Random(2);
+    let mut random = Random::new(2);
     let chunks = sample_chunks();
     let mut reached = [0; 14];
     for _ in 0..3_000 {
@@ -142,8 +143,8 @@ fn any_bytes_are_answered() {
 
 #[test]
 fn damaged_files_are_listed() {
-    let mut random = Random(3);
-    let log = std::fs::read(samples().join("windows.evtx")).unwrap();
+    let mut random = Random::new(3);
+    let log = read_sample("windows.evtx");
     for _ in 0..10 {
         let mut file = log.clone();
         for _ in 0..60 {

@@ -1,8 +1,6 @@
 //! Every row of the type table: the text, the sizes, and the content.
 
-mod common;
-
-use common::utf16;
+use log_writer::utf16;
 use second_reader::text::escaped;
 use second_reader::value::{value_text, Cause};
 

@@ -1,7 +1,7 @@
 //! Damage to sound inputs: bits, tails, sizes, overlaps and header fields.
 
 use crate::generate::*;
-use crate::random::Random;
+use log_writer::{frame, get_u32, put, put_u32, Random, HEADER};
 
 pub fn flip_bits(random: &mut Random, bytes: &mut [u8], times: usize) {
     if bytes.is_empty() {
@@ -46,25 +46,13 @@ pub fn overlaps(random: &mut Random, bytes: &mut [u8]) {
     for _ in 0..random.between(1, 30) {
         let size = random.pick(&[28, 29, 40, 100, 1_000]);
         let at = random.below(bytes.len() - size);
-        put(bytes, at, &record(random, size));
+        put(bytes, at, &random_record(random, size));
         // A second record from inside the first to beyond its end.
         let inner = at + random.between(8, size - 5);
         let reach = random.between(28, 300);
         if inner + reach <= bytes.len() {
-            put(bytes, inner, &MAGIC);
-            put_u32(bytes, inner + 4, reach as u32);
-            put_u32(bytes, inner + reach - 4, reach as u32);
+            frame(bytes, inner, reach);
         }
-    }
-}
-
-/// The magic and size of a record at `at`, and its second size where that
-/// lies in the bytes.
-pub fn frame(bytes: &mut [u8], at: usize, size: usize) {
-    put(bytes, at, &MAGIC);
-    put_u32(bytes, at + 4, size as u32);
-    if size >= 4 && at + size <= bytes.len() {
-        put_u32(bytes, at + size - 4, size as u32);
     }
 }
 

@@ -1,32 +1,13 @@
 //! Sound file headers, chunks and records, and bytes rich in beginnings of
 //! records. What a record's binary XML holds does not matter to these calls.
 
-use crate::random::Random;
+use log_writer::{frame, get_u32, put, put_u32, Random, CHUNK, DATA, HEADER, MAGIC};
 use second_reader::checksum::crc32;
 
-pub const CHUNK: usize = 65_536;
-pub const DATA: usize = 512;
-pub const HEADER: usize = 4_096;
-pub const MAGIC: [u8; 4] = [0x2a, 0x2a, 0, 0];
-
-pub fn put_u32(bytes: &mut [u8], at: usize, number: u32) {
-    bytes[at..at + 4].copy_from_slice(&number.to_le_bytes());
-}
-
-pub fn get_u32(bytes: &[u8], at: usize) -> u32 {
-    u32::from_le_bytes([bytes[at], bytes[at + 1], bytes[at + 2], bytes[at + 3]])
-}
-
-pub fn put(bytes: &mut [u8], at: usize, part: &[u8]) {
-    bytes[at..at + part.len()].copy_from_slice(part);
-}
-
 /// A record of `size` bytes, at least 8, with both copies of its size.
-pub fn record(random: &mut Random, size: usize) -> Vec<u8> {
+pub fn random_record(random: &mut Random, size: usize) -> Vec<u8> {
     let mut bytes = random.bytes(size);
-    put(&mut bytes, 0, &MAGIC);
-    put_u32(&mut bytes, 4, size as u32);
-    put_u32(&mut bytes, size - 4, size as u32);
+    frame(&mut bytes, 0, size);
     bytes
 }
 
@@ -40,7 +21,7 @@ fn records(random: &mut Random, length: usize) -> Vec<u8> {
         if bytes.len() + size > length || bytes.len() >= wanted {
             return bytes;
         }
-        bytes.extend(record(random, size));
+        bytes.extend(random_record(random, size));
     }
 }
 
@@ -96,7 +77,7 @@ pub fn sound_chunk(random: &mut Random) -> Vec<u8> {
 
 /// A sound chunk with little data, whose checksums cost little.
 pub fn small_chunk(random: &mut Random) -> Vec<u8> {
-    let data = record(random, 60);
+    let data = random_record(random, 60);
     chunk_of(random, &data)
 }
 
@@ -122,7 +103,7 @@ pub fn dense_bytes(random: &mut Random, length: usize) -> Vec<u8> {
         match random.below(8) {
             0..=2 => bytes.extend([&MAGIC[..], &size.to_le_bytes()].concat()),
             3..=5 => bytes.extend(whole_word.to_le_bytes()),
-            6 => bytes.extend(record(random, size as usize)),
+            6 => bytes.extend(random_record(random, size as usize)),
             _ => bytes.push(random.pick(&[0, 0x2a, 28])),
         }
     }

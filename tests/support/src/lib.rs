@@ -1,5 +1,5 @@
-//! What both comparing programs need: random numbers, sound and damaged files,
-//! guarded memory, the offsets worth asking for, and the report of a difference.
+//! What the comparing programs need: sound and damaged files, guarded memory,
+//! the offsets worth asking for, and the report of a difference.
 #![forbid(unsafe_code)]
 
 pub mod damage;
@@ -7,6 +7,5 @@ pub mod difference;
 pub mod generate;
 pub mod lent;
 pub mod offsets;
-pub mod random;
 pub mod seed;
 pub mod tally;

@@ -1,7 +1,7 @@
 //! The offsets at which an input is asked for records: every whole record and
 //! its neighbours, the bounds of the input, numbers near 2^64, and others.
 
-use crate::random::Random;
+use log_writer::Random;
 use second_reader::record::whole_record;
 use std::collections::BTreeSet;
 

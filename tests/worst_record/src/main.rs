@@ -3,8 +3,8 @@
 //! 65,536 attributes and items allows. The text is far longer than the room, so
 //! each call counts it and answers 13.
 
-use compare_text::writer::*;
 use first_reader::record_text;
+use log_writer::*;
 use std::ffi::c_long;
 
 const ROOM: usize = 65_536;

@@ -3,9 +3,9 @@
 use super::File;
 use crate::generated::seal;
 use crate::hand::first_example;
-use crate::writer::*;
-use support::damage::{frame, wrong_chunk_fields, wrong_file_fields};
-use support::generate::{put, put_u32, seal_file_header, CHUNK, HEADER};
+use log_writer::*;
+use support::damage::{wrong_chunk_fields, wrong_file_fields};
+use support::generate::seal_file_header;
 
 fn header() -> Vec<u8> {
     let mut header = vec![0; HEADER];

@@ -2,9 +2,9 @@
 
 use super::{File, Input};
 use crate::generated::{damaged_sample, seal, sound_chunk, Stock};
+use log_writer::{Random, CHUNK, HEADER};
 use support::damage::{flip_bits, wrong_chunk_field, wrong_file_field};
-use support::generate::{sound_file_header, CHUNK, HEADER};
-use support::random::Random;
+use support::generate::sound_file_header;
 
 /// The number for a run that is given none.
 pub const SEED: u64 = 0x0065_7674_7800_0003;

@@ -3,9 +3,8 @@
 
 use super::stock::Stock;
 use super::trees::{Scope, Trees};
-use crate::writer::*;
-use support::generate::{put, put_u32, seal_chunk, CHUNK, DATA};
-use support::random::Random;
+use log_writer::*;
+use support::generate::seal_chunk;
 
 /// Where shared things begin, and where records end.
 const SHARED: usize = 46_000;
@@ -79,9 +78,7 @@ fn chain_scope(random: &mut Random) -> Scope<'static> {
 }
 
 fn filled(start: usize, random: &mut Random) -> Writer {
-    let mut writer = Writer::at(start);
-    writer.filler = Some(Random::new(random.number()));
-    writer
+    Writer::filled(start, Filling::Random(Random::new(random.number())))
 }
 
 /// Writes names and definitions to share; answers their fields.
@@ -113,7 +110,7 @@ fn one_more(
     writer.stream_header();
     trees.content(&mut writer, scope);
     let tail = trees.random.pick(&[0, 0, 0, 1, 2, 9]);
-    writer.unread(tail);
+    writer.unread(&vec![0; tail]);
     let bytes = record(number as u64, &writer.bytes);
     if offset + bytes.len() > RECORDS_END {
         // What stood in the record is not there to be pointed to.

@@ -2,9 +2,7 @@
 //! or to another of its sort, or one bit flipped.
 
 use super::chunks::{Made, Placed};
-use crate::writer::{Field, Part};
-use support::generate::put;
-use support::random::Random;
+use log_writer::{put, Field, Part, Random};
 
 const TOKENS: [u8; 20] = [
     0x00, 0x01, 0x41, 0x02, 0x03, 0x04, 0x05, 0x45, 0x06, 0x46, 0x0c, 0x0d, 0x0e, 0x0f, 0x42, 0x4c,

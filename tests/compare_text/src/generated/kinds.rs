@@ -5,10 +5,7 @@ use super::edits::{edited as edit, edited_and_cut};
 use super::stock::Stock;
 use crate::boundaries;
 use crate::question::Question;
-use crate::writer::*;
-use support::damage::frame;
-use support::generate::{put, put_u32, CHUNK};
-use support::random::Random;
+use log_writer::*;
 
 /// The rounds of the values at their boundaries.
 pub const SHARES: usize = 20;
@@ -123,7 +120,7 @@ pub fn boundary_values(_: &mut Random, _: &Stock, round: usize) -> Vec<Question>
             };
             w.instance(shown, &values());
         });
-        questions.extend([ask(element, FIRST), ask(attribute, FIRST)]);
+        questions.extend([ask(element, DATA), ask(attribute, DATA)]);
     }
     questions
 }

@@ -2,8 +2,7 @@
 
 use super::stock::Stock;
 use crate::question::Question;
-use crate::writer::*;
-use support::random::Random;
+use log_writer::*;
 
 /// What stands in the innermost value of nested fragments.
 #[derive(Clone, Copy)]

@@ -2,10 +2,9 @@
 
 use super::stock::Stock;
 use crate::question::Question;
+use log_writer::{Random, CHUNK, DATA, HEADER};
 use support::damage::{disagreeing_sizes, flip_bits, overlaps, zero_tail};
-use support::generate::{CHUNK, DATA, HEADER};
 use support::offsets::worth_asking;
-use support::random::Random;
 
 pub const SAMPLES: [&str; 3] = ["panel", "windows", "powercut"];
 

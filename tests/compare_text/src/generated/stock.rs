@@ -1,8 +1,8 @@
 //! Values to choose from, by type, and random strings.
 
 use crate::boundaries::{self, Value};
+use log_writer::Random;
 use second_reader::value::value_text;
-use support::random::Random;
 
 const LONGEST: usize = 120;
 /// Units of which strings are made: letters, escapes, controls, units of two

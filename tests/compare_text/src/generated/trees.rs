@@ -2,8 +2,7 @@
 //! names and definitions inline or shared.
 
 use super::stock::{self, Stock};
-use crate::writer::{Writer, BIN_XML};
-use support::random::Random;
+use log_writer::{Random, Writer, BIN_XML};
 
 /// What surrounds the place that is written.
 #[derive(Clone, Copy)]

@@ -4,9 +4,7 @@
 use super::examples::{first, shown};
 use super::flat;
 use crate::question::Question;
-use crate::writer::*;
-use support::damage::frame;
-use support::generate::put;
+use log_writer::*;
 
 fn offsets() -> Vec<Question> {
     let far = [u64::MAX, u64::MAX - 27, u64::MAX - 28, u64::MAX - 511, 1 << 63, (1 << 63) + 512];

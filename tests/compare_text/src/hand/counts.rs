@@ -3,7 +3,7 @@
 
 use super::flat;
 use crate::question::Question;
-use crate::writer::*;
+use log_writer::*;
 
 const LIMIT: usize = 65_536;
 /// A fragment that counts 256: an element and 255 literals.

@@ -2,8 +2,7 @@
 
 use super::flat;
 use crate::question::Question;
-use crate::writer::*;
-use support::generate::{put, put_u32};
+use log_writer::*;
 
 /// The record of the first example, byte by byte as document 01 gives it.
 pub fn first() -> Vec<u8> {

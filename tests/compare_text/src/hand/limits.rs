@@ -4,7 +4,7 @@
 use super::examples::first_with;
 use super::flat;
 use crate::question::Question;
-use crate::writer::*;
+use log_writer::*;
 
 /// `depth` elements inside each other; `deepest` writes the innermost one.
 fn deep(w: &mut Writer, depth: usize, deepest: &dyn Fn(&mut Writer)) {

@@ -3,7 +3,7 @@
 use super::examples::{first_with, shown};
 use super::flat;
 use crate::question::Question;
-use crate::writer::*;
+use log_writer::*;
 
 /// A definition whose element P ends, by its own length, with `last`; value 0
 /// is sound, value 1 is an Int16 of one byte.

@@ -2,8 +2,7 @@
 
 use super::flat;
 use crate::question::Question;
-use crate::writer::*;
-use support::generate::{put, put_u32, CHUNK};
+use log_writer::*;
 
 const AT: usize = 5_000;
 

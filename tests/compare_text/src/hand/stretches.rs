@@ -4,8 +4,7 @@
 use super::examples::first_with;
 use super::flat;
 use crate::question::Question;
-use crate::writer::*;
-use support::generate::put_u32;
+use log_writer::*;
 
 /// An element with an attribute list of the given bytes and length.
 fn list(length: usize, bytes: &[u8], rest: &[u8]) -> Vec<u8> {

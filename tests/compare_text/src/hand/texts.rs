@@ -3,7 +3,7 @@
 use super::examples::shown;
 use super::flat;
 use crate::question::Question;
-use crate::writer::*;
+use log_writer::*;
 
 /// The text of an element whose one attribute has what `items` writes. Value 0
 /// is Null, 1 an empty string, 2 Null of two bytes, 3 the number 7.

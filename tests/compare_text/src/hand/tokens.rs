@@ -4,7 +4,7 @@
 use super::examples::first_with;
 use super::flat;
 use crate::question::Question;
-use crate::writer::*;
+use log_writer::*;
 
 /// All bytes but the allowed ones at one place are 8.
 fn every_other(name: &str, allowed: &[u8], chunk: &dyn Fn(u8) -> Vec<u8>) -> Vec<Question> {

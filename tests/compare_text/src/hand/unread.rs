@@ -3,9 +3,7 @@
 use super::examples::{first, first_with};
 use super::flat;
 use crate::question::Question;
-use crate::writer::*;
-use support::generate::put;
-use support::random::Random;
+use log_writer::*;
 
 /// Start and end of what the first example does not read: the chunk's header,
 /// the record's number and time, the instance's byte and id, the definition's
@@ -76,7 +74,7 @@ fn after_00(stray: &[u8]) -> Vec<u8> {
     one_record(|w| {
         w.instance_start();
         w.pointer_here();
-        w.unread(20);
+        w.unread(&[0; 20]);
         w.counted(|w| {
             w.stream_header();
             w.open("P", |w| w.substitution(0x0d, 0));

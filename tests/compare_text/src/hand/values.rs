@@ -3,7 +3,7 @@
 use super::examples::shown;
 use super::flat;
 use crate::question::Question;
-use crate::writer::*;
+use log_writer::*;
 
 fn in_attribute(kind: u8, value: &[u8]) -> Vec<u8> {
     one_record(|w| {

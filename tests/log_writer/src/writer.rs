@@ -2,17 +2,10 @@
 //! at which offset its bytes will stand.
 
 mod instances;
-mod records;
 
-use support::generate::put_u32;
-use support::random::Random;
+use crate::{put_u32, utf16, Random};
 
 pub use instances::{plain, Value, BIN_XML};
-pub use records::*;
-
-/// Where the first record of a chunk and its binary XML begin.
-pub const FIRST: usize = 512;
-pub const BODY: usize = FIRST + 24;
 
 /// What a part of the bytes is, for edits that change one of them.
 #[derive(Clone, Copy, Debug, PartialEq, Eq)]
@@ -34,19 +27,30 @@ pub struct Field {
     pub width: usize,
 }
 
+/// What unread bytes hold.
+pub enum Filling {
+    Zeros,
+    /// What they mostly hold in a log of Windows, or else zeros or a wrong number.
+    Usual,
+    Random(Random),
+}
+
 pub struct Writer {
     start: usize,
     pub bytes: Vec<u8>,
     pub fields: Vec<Field>,
     /// Elements are written without the two unread bytes.
     pub bare: bool,
-    /// What unread bytes hold; zeros without it.
-    pub filler: Option<Random>,
+    filling: Filling,
 }
 
 impl Writer {
     pub fn at(start: usize) -> Writer {
-        Writer { start, bytes: Vec::new(), fields: Vec::new(), bare: false, filler: None }
+        Writer::filled(start, Filling::Zeros)
+    }
+
+    pub fn filled(start: usize, filling: Filling) -> Writer {
+        Writer { start, bytes: Vec::new(), fields: Vec::new(), bare: false, filling }
     }
 
     pub fn here(&self) -> usize {
@@ -74,10 +78,12 @@ impl Writer {
         self.put(&[token]);
     }
 
-    pub fn unread(&mut self, length: usize) {
-        let bytes = match &mut self.filler {
-            Some(random) => random.bytes(length),
-            None => vec![0; length],
+    /// Bytes that are not read, as many as are `usual`.
+    pub fn unread(&mut self, usual: &[u8]) {
+        let bytes = match &mut self.filling {
+            Filling::Zeros => vec![0; usual.len()],
+            Filling::Usual => usual.to_vec(),
+            Filling::Random(random) => random.bytes(usual.len()),
         };
         self.put(&bytes);
     }
@@ -99,7 +105,7 @@ impl Writer {
 
     /// A name as it lies in a chunk, without a pointer.
     pub fn bare_name(&mut self, name: &str) {
-        self.unread(6);
+        self.unread(&[0; 6]);
         self.note(Part::Count, 2);
         self.u16(name.len());
         self.note(Part::Units, 2 * name.len() + 2);
@@ -126,7 +132,7 @@ impl Writer {
     pub fn element(&mut self, token: u8, inside: impl FnOnce(&mut Writer)) {
         self.token(token);
         if !self.bare {
-            self.unread(2);
+            self.unread(&[0xff, 0xff]);
         }
         self.counted(inside);
     }
@@ -185,6 +191,6 @@ impl Writer {
         self.token(token);
         self.note(Part::Number, 2);
         self.u16(number);
-        self.unread(1);
+        self.unread(&[0xee]);
     }
 }

@@ -1,7 +1,7 @@
 //! Definitions, instances and their values.
 
 use super::{Part, Writer};
-use support::generate::put;
+use crate::put;
 
 pub const BIN_XML: u8 = 0x21;
 
@@ -20,7 +20,7 @@ pub fn plain(kind: u8, bytes: impl Into<Vec<u8>>) -> Value<'static> {
 impl Writer {
     /// A definition as it lies in a chunk, without a pointer.
     pub fn bare_definition(&mut self, element: impl FnOnce(&mut Writer)) {
-        self.unread(20);
+        self.unread(&[0; 20]);
         let bare = std::mem::replace(&mut self.bare, false);
         self.counted(|w| {
             w.stream_header();
@@ -32,7 +32,7 @@ impl Writer {
 
     pub fn instance_start(&mut self) {
         self.token(0x0c);
-        self.unread(5);
+        self.unread(&[1, 0, 0, 0, 0]);
     }
 
     /// An instance whose definition lies at the next offset.
@@ -73,7 +73,7 @@ impl Writer {
             self.u16(0);
             self.note(Part::Kind, 1);
             self.put(&[*kind]);
-            self.unread(1);
+            self.unread(&[0]);
         }
         for index in 0..kinds.len() {
             let from = self.bytes.len();

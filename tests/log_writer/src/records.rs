@@ -1,17 +1,25 @@
 //! Records and chunks around written binary XML.
 
-use super::{Writer, FIRST};
-use support::generate::{put, CHUNK, MAGIC};
+use crate::{put, put_u32, Writer, CHUNK, DATA, MAGIC};
 
-pub fn utf16(text: &str) -> Vec<u8> {
-    text.encode_utf16().flat_map(u16::to_le_bytes).collect()
-}
+/// Where the binary XML of a chunk's first record begins.
+pub const BODY: usize = DATA + 24;
 
 /// A record with the given number and binary XML.
 pub fn record(number: u64, body: &[u8]) -> Vec<u8> {
     let size = (body.len() as u32 + 28).to_le_bytes();
     let time = [0; 8];
     [&MAGIC, &size[..], &number.to_le_bytes(), &time, body, &size].concat()
+}
+
+/// The magic and size of a record at `at`, and its second size where that
+/// lies in the bytes.
+pub fn frame(bytes: &mut [u8], at: usize, size: usize) {
+    put(bytes, at, &MAGIC);
+    put_u32(bytes, at + 4, size as u32);
+    if size >= 4 && at + size <= bytes.len() {
+        put_u32(bytes, at + size - 4, size as u32);
+    }
 }
 
 /// An empty chunk with the given bytes at the given offset.
@@ -21,10 +29,10 @@ pub fn chunk_with(offset: usize, bytes: &[u8]) -> Vec<u8> {
     chunk
 }
 
-/// A chunk whose one record, at 512, holds what `inside` writes after the
+/// A chunk whose one record, its first, holds what `inside` writes after the
 /// stream header.
 pub fn one_record(inside: impl FnOnce(&mut Writer)) -> Vec<u8> {
-    record_at(FIRST, inside)
+    record_at(DATA, inside)
 }
 
 /// The same with the record at another offset.

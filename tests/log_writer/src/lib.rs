@@ -1,0 +1,13 @@
+//! Writes what logs are made of, for the tests of either reader: fields,
+//! records, chunks and binary XML. It depends on neither reader.
+#![forbid(unsafe_code)]
+
+mod bytes;
+mod random;
+mod records;
+mod writer;
+
+pub use bytes::*;
+pub use random::Random;
+pub use records::*;
+pub use writer::*;
