@@ -4,7 +4,7 @@
 mod by_hand;
 pub mod generated;
 
-use crate::generated::{read_sample, SAMPLES};
+use support::samples::{read_sample, SAMPLES};
 
 pub struct File {
     pub name: String,

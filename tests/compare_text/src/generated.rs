@@ -12,9 +12,10 @@ mod trees;
 
 use crate::question::Question;
 use log_writer::Random;
+use support::seed::round_seed;
 
 pub use chunks::{chunk as sound_chunk, seal, Made};
-pub use samples::{damaged_sample, read_sample, sample_path, SAMPLES};
+pub use samples::damaged_sample;
 pub use stock::Stock;
 
 /// The number for a run that is given none.
@@ -57,8 +58,7 @@ pub fn for_each<E>(
     let stock = Stock::new();
     for (index, kind) in KINDS.iter().enumerate() {
         for round in 0..kind.rounds {
-            let place = ((index as u64) << 32) + round as u64;
-            let seed = Random::new(base.wrapping_add(place)).number();
+            let seed = round_seed(base, index, round);
             let questions = (kind.make)(&mut Random::new(seed), &stock, round);
             for (part, mut question) in questions.into_iter().enumerate() {
                 question.name = kind.name.to_string();

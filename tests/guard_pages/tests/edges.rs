@@ -63,12 +63,8 @@ fn inputs() -> Vec<Vec<u8>> {
 
 /// At most `most` of the offsets worth asking for.
 fn some_offsets(bytes: &[u8], most: usize) -> Vec<u64> {
-    let random = &mut Random::new(bytes.len() as u64);
-    let mut offsets: Vec<u64> = worth_asking(bytes, SEED).into_iter().collect();
-    while offsets.len() > most {
-        offsets = offsets.chunks(2).map(|pair| random.pick(pair)).collect();
-    }
-    offsets
+    let offsets = worth_asking(bytes, SEED).into_iter().collect();
+    Random::new(bytes.len() as u64).thin_out(offsets, most)
 }
 
 /// Hands each input at both edges to `ask`, and looks at it afterwards.

@@ -36,6 +36,14 @@ impl Random {
         choices[self.below(choices.len())]
     }
 
+    /// Picks one of every two, over and over, until at most `most` are left.
+    pub fn thin_out<T: Copy>(&mut self, mut all: Vec<T>, most: usize) -> Vec<T> {
+        while all.len() > most {
+            all = all.chunks(2).map(|pair| self.pick(pair)).collect();
+        }
+        all
+    }
+
     pub fn bytes(&mut self, length: usize) -> Vec<u8> {
         (0..length).map(|_| self.number() as u8).collect()
     }

@@ -20,7 +20,7 @@ pub fn zero_tail(random: &mut Random, bytes: &mut [u8]) {
 }
 
 /// Gives some records a second size that is not the first.
-pub fn disagreeing_sizes(random: &mut Random, chunk: &mut [u8]) {
+pub fn wrong_second_sizes(random: &mut Random, chunk: &mut [u8]) {
     for start in record_starts(chunk) {
         if random.once_in(3) {
             let size = get_u32(chunk, start + 4);

@@ -7,5 +7,6 @@ pub mod difference;
 pub mod generate;
 pub mod lent;
 pub mod offsets;
+pub mod samples;
 pub mod seed;
 pub mod tally;

@@ -45,11 +45,8 @@ pub fn worth_asking(bytes: &[u8], seed: u64) -> BTreeSet<u64> {
 /// Start and size of whole records, inside other records or not.
 fn chosen_records(bytes: &[u8], random: &mut Random) -> Vec<(u64, u64)> {
     let most = if bytes.len() > LARGE { 10 } else { MOST_RECORDS };
-    let mut records: Vec<(u64, u64)> = (0..bytes.len() as u64)
+    let records = (0..bytes.len() as u64)
         .filter_map(|start| whole_record(bytes, start).map(|size| (start, size)))
         .collect();
-    while records.len() > most {
-        records = records.chunks(2).map(|pair| random.pick(pair)).collect();
-    }
-    records
+    random.thin_out(records, most)
 }

@@ -5,6 +5,7 @@ use crate::generated::{damaged_sample, seal, sound_chunk, Stock};
 use log_writer::{Random, CHUNK, HEADER};
 use support::damage::{flip_bits, wrong_chunk_field, wrong_file_field};
 use support::generate::sound_file_header;
+use support::seed::round_seed;
 
 /// The number for a run that is given none.
 pub const SEED: u64 = 0x0065_7674_7800_0003;
@@ -67,7 +68,7 @@ pub fn for_each<E>(
 ) -> Result<(), (File, E)> {
     let stock = Stock::new();
     for round in 0..SOUND + CUT + DAMAGED {
-        let seed = Random::new(base.wrapping_add(round as u64)).number();
+        let seed = round_seed(base, 0, round);
         let random = &mut Random::new(seed);
         let (name, bytes) = match round {
             0..SOUND => ("generated logs", log(random, &stock)),

@@ -3,20 +3,9 @@
 use super::stock::Stock;
 use crate::question::Question;
 use log_writer::{Random, CHUNK, DATA, HEADER};
-use support::damage::{disagreeing_sizes, flip_bits, overlaps, zero_tail};
+use support::damage::{flip_bits, overlaps, wrong_second_sizes, zero_tail};
 use support::offsets::worth_asking;
-
-pub const SAMPLES: [&str; 3] = ["panel", "windows", "powercut"];
-
-/// The path of a file of the samples folder.
-pub fn sample_path(name: &str) -> String {
-    format!("{}/../../samples/{name}", env!("CARGO_MANIFEST_DIR"))
-}
-
-pub fn read_sample(name: &str) -> Vec<u8> {
-    let path = sample_path(name);
-    std::fs::read(&path).unwrap_or_else(|error| panic!("{path}: {error}"))
-}
+use support::samples::{read_sample, SAMPLES};
 
 /// All chunks of the samples, full or not.
 fn chunks() -> Vec<Vec<u8>> {
@@ -49,11 +38,8 @@ pub fn damaged(random: &mut Random, _: &Stock, round: usize) -> Vec<Question> {
     let full: Vec<Vec<u8>> = chunks().into_iter().filter(|chunk| chunk.len() == CHUNK).collect();
     let mut chunk = full[round % full.len()].clone();
     damage(random, &mut chunk);
-    let mut offsets: Vec<u64> = worth_asking(&chunk, round as u64).into_iter().collect();
-    while offsets.len() > 400 {
-        offsets = offsets.chunks(2).map(|pair| random.pick(pair)).collect();
-    }
-    ask(chunk, offsets)
+    let offsets = worth_asking(&chunk, round as u64).into_iter().collect();
+    ask(chunk, random.thin_out(offsets, 400))
 }
 
 /// A sample's file, damaged somewhere.
@@ -62,7 +48,7 @@ pub fn damaged_sample(random: &mut Random, round: usize) -> Vec<u8> {
     match random.below(5) {
         0 => file.truncate(random.below(file.len())),
         1 => zero_tail(random, &mut file),
-        2 => disagreeing_sizes(random, &mut file[HEADER..HEADER + CHUNK]),
+        2 => wrong_second_sizes(random, &mut file[HEADER..HEADER + CHUNK]),
         _ => (),
     }
     let times = random.pick(&[0, 1, 30, 2_000]);

@@ -2,12 +2,12 @@
 //! second reader, of the samples' listings, and by hand.
 
 use compare_text::files::{self, File, Input};
-use compare_text::generated::sample_path;
 use second_reader::listing::listing;
 use std::io::Write;
 use std::path::Path;
 use std::process::{Command, Output, Stdio};
 use support::difference::{Difference, Outcome};
+use support::samples::sample_path;
 use support::tally::Tally;
 
 pub const HEADER_LINE: &str = "evtx_list, header";
