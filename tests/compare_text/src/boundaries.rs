@@ -22,7 +22,7 @@ impl Value {
 
 /// The types of the table in which a value by itself has a text; BinXml, whose
 /// text is that of a fragment, is not among them.
-pub fn known(kind: u8) -> bool {
+fn known(kind: u8) -> bool {
     matches!(kind, 0x00 | 0x01 | 0x03..=0x15)
 }
 

@@ -1,6 +1,6 @@
 //! Every row of the type table: the text, the sizes, and the content.
 
-use log_writer::utf16;
+use log_writer::{u16s, utf16};
 use second_reader::text::escaped;
 use second_reader::value::{value_text, Cause};
 
@@ -102,8 +102,7 @@ fn file_times() {
 }
 
 fn system_time(fields: [u16; 8]) -> Result<String, Cause> {
-    let bytes: Vec<u8> = fields.iter().flat_map(|field| field.to_le_bytes()).collect();
-    value_text(0x12, &bytes)
+    value_text(0x12, &u16s(&fields))
 }
 
 #[test]
@@ -162,7 +161,7 @@ fn security_identifiers() {
 
 /// The text of the given UTF-16 units.
 fn units(units: &[u16]) -> String {
-    escaped(&units.iter().flat_map(|unit| unit.to_le_bytes()).collect::<Vec<u8>>())
+    escaped(&u16s(units))
 }
 
 #[test]

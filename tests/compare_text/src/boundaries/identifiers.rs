@@ -27,7 +27,7 @@ pub fn guids() -> Vec<Value> {
 
 /// A security identifier with the given revision, stated count, authority and
 /// subauthorities.
-pub fn sid(revision: u8, count: u8, authority: u64, subs: &[u32]) -> Value {
+fn sid(revision: u8, count: u8, authority: u64, subs: &[u32]) -> Value {
     let mut bytes = vec![revision, count];
     bytes.extend_from_slice(&authority.to_be_bytes()[2..]);
     bytes.extend(subs.iter().flat_map(|sub| sub.to_le_bytes()));

@@ -2,6 +2,7 @@
 //! lengths.
 
 use super::Value;
+use log_writer::{u16s, utf16};
 
 /// High surrogates and low ones at the ends of their ranges, and their
 /// neighbours.
@@ -10,12 +11,12 @@ const AROUND_SURROGATES: [u16; 10] =
 /// Units that are written as they are, as an escape, or as U+FFFD.
 const OTHERS: [u16; 9] = [0x41, 0x26, 0x22, 0x0a, 0x00, 0x7f, 0x7ff, 0x800, 0xfffe];
 
-pub fn string(units: &[u16]) -> Value {
-    Value::new(0x01, units.iter().flat_map(|unit| unit.to_le_bytes()).collect::<Vec<u8>>())
+fn string(units: &[u16]) -> Value {
+    Value::new(0x01, u16s(units))
 }
 
-pub fn text(text: &str) -> Value {
-    string(&text.encode_utf16().collect::<Vec<u16>>())
+fn text(text: &str) -> Value {
+    Value::new(0x01, utf16(text))
 }
 
 pub fn single_units() -> Vec<Value> {

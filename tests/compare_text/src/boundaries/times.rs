@@ -2,6 +2,7 @@
 //! day in common and leap years, and each field just in and just out.
 
 use super::Value;
+use log_writer::u16s;
 
 const TICKS_PER_DAY: u64 = 864_000_000_000;
 const LIMIT: u64 = 2_650_467_743_999_999_999;
@@ -61,8 +62,8 @@ pub fn file_times() -> Vec<Value> {
 }
 
 /// Year, month, weekday, day, hour, minute, second, millisecond.
-pub fn system_time(fields: [u16; 8]) -> Value {
-    Value::new(0x12, fields.iter().flat_map(|field| field.to_le_bytes()).collect::<Vec<u8>>())
+fn system_time(fields: [u16; 8]) -> Value {
+    Value::new(0x12, u16s(&fields))
 }
 
 /// For each field, numbers just in and just out of its range.

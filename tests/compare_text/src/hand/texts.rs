@@ -116,12 +116,11 @@ fn names_of_other_units() -> Vec<Question> {
 /// A string of the given units, as a value in an element, as a literal and as
 /// an attribute's literal.
 fn string(name: &str, units: &[u16], text: &str) -> Vec<Question> {
-    let bytes: Vec<u8> = units.iter().flat_map(|unit| unit.to_le_bytes()).collect();
     let literal = one_record(|w| w.open("P", |w| w.units(units)));
     let attribute =
         one_record(|w| w.with_attributes("P", |w| w.attribute("a", |w| w.units(units))));
     vec![
-        Question::text(format!("{name}, value"), shown(1, &bytes), format!("<P>{text}</P>")),
+        Question::text(format!("{name}, value"), shown(1, &u16s(units)), format!("<P>{text}</P>")),
         Question::text(format!("{name}, literal"), literal, format!("<P>{text}</P>")),
         Question::text(format!("{name}, attribute"), attribute, format!("<P a=\"{text}\"/>")),
     ]
