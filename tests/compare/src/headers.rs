@@ -9,8 +9,8 @@ pub fn compare(trial: &mut Trial) -> Outcome {
     let bytes = &trial.case.bytes;
     let first = first_reader::check_file_header(&mut trial.lent);
     let second = Answer::without_length(header::check_file_header(bytes));
-    trial.settle("evtx_check_file_header", "", first, second)?;
+    trial.check("evtx_check_file_header", "", first, second)?;
     let first = first_reader::check_chunk(&mut trial.lent);
     let second = Answer::without_length(header::check_chunk(bytes));
-    trial.settle("evtx_check_chunk", "", first, second)
+    trial.check("evtx_check_chunk", "", first, second)
 }

@@ -11,10 +11,10 @@ pub fn compare(trial: &mut Trial) -> Outcome {
         let bytes = &trial.case.bytes;
         let first = first_reader::next_in_chunk(&mut trial.lent, from);
         let second = record::next_in_chunk(bytes, from).into();
-        trial.settle("evtx_next_in_chunk", &asked, first, second)?;
+        trial.check("evtx_next_in_chunk", &asked, first, second)?;
         let first = first_reader::next_in_bytes(&mut trial.lent, from);
         let second = record::next_in_bytes(bytes, from).into();
-        trial.settle("evtx_next_in_bytes", &asked, first, second)?;
+        trial.check("evtx_next_in_bytes", &asked, first, second)?;
     }
     Ok(())
 }

@@ -11,10 +11,10 @@ pub fn compare(trial: &mut Trial) -> Outcome {
         let bytes = &trial.case.bytes;
         let first = first_reader::record_stretch(&mut trial.lent, offset);
         let second = record::record_stretch(bytes, offset).into();
-        trial.settle("evtx_record_stretch", &asked, first, second)?;
+        trial.check("evtx_record_stretch", &asked, first, second)?;
         let first = first_reader::record_fields(&mut trial.lent, offset);
         let second = record::record_fields(bytes, offset).into();
-        trial.settle("evtx_record_fields", &asked, first, second)?;
+        trial.check("evtx_record_fields", &asked, first, second)?;
     }
     Ok(())
 }

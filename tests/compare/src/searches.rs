@@ -42,7 +42,7 @@ fn with_room(
         Err(number) => (*number, &[][..]),
     };
     let second_answer = Answer { number, length: offsets.len() as u64 };
-    trial.settle(call, &asked, first_answer, second_answer)?;
+    trial.check(call, &asked, first_answer, second_answer)?;
     if !list.holds_only(offsets) {
         return Err(Difference { call, asked, found: list_difference(&list, offsets) });
     }

@@ -1,5 +1,5 @@
-//! One input on trial: the calls of both readers are settled here, answer
-//! against answer, with the lent memory checked after each call.
+//! One input of the comparison: after each call the answers of both readers are
+//! compared here, and the lent memory is checked.
 
 use first_reader::answers::{Answer, Fields, Found, Stretch};
 use std::fmt::{Debug, Display};
@@ -57,7 +57,7 @@ impl<'a> Trial<'a> {
     }
 
     /// Both answers are equal, and the input is unchanged.
-    pub fn settle<A: Numbered>(
+    pub fn check<A: Numbered>(
         &mut self,
         call: &'static str,
         asked: impl Display,

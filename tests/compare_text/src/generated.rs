@@ -55,7 +55,7 @@ pub fn for_each<E>(
     base: u64,
     ask: &mut dyn FnMut(&Question) -> Result<(), E>,
 ) -> Result<(), (Question, E)> {
-    let stock = Stock::new();
+    let stock = Stock::of_boundaries();
     for (index, kind) in KINDS.iter().enumerate() {
         for round in 0..kind.rounds {
             let seed = round_seed(base, index, round);

@@ -26,7 +26,7 @@ unsafe impl<T: Copy + PartialEq> Lendable<T> for Lent<T> {
     }
 
     fn length(&self) -> usize {
-        self.len()
+        Lent::length(self)
     }
 }
 

@@ -89,14 +89,6 @@ impl Fenced {
         self.pages().wrapping_add(self.start)
     }
 
-    pub fn len(&self) -> usize {
-        self.length
-    }
-
-    pub fn is_empty(&self) -> bool {
-        self.length == 0
-    }
-
     /// All that may be touched, as it is now.
     fn touchable(&self) -> &[u8] {
         // Safety: the inner pages are mapped, readable, and no call is at work.

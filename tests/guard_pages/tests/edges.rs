@@ -196,10 +196,9 @@ fn texts() {
 #[test]
 #[ignore = "it ends the program: a_byte_too_many_is_fatal starts it"]
 fn told_a_byte_too_many() {
-    let input = Fenced::input(&[0; 4_096], Edge::Back);
+    let (input, mut list) = (Fenced::input(&[0; 4_096], Edge::Back), [0]);
     // Not safe, which is what is tried: the length is one more than is lent.
-    let (length, mut list) = (input.len() + 1, [0]);
-    unsafe { evtx_search_bytes(input.pointer(), length, list.as_mut_ptr(), list.len()) };
+    unsafe { evtx_search_bytes(input.pointer(), 4_097, list.as_mut_ptr(), list.len()) };
 }
 
 /// A call that reads one byte beyond what is lent is seen.

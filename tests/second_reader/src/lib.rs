@@ -1,6 +1,6 @@
-//! The second reader of Windows XML event logs: the yardstick of the
-//! comparison tests. It is written from document 01 and the published layouts
-//! alone and shares nothing with the first reader.
+//! The second reader of Windows XML event logs, with which the first is
+//! compared. It is written from document 01 and the published layouts alone and
+//! shares nothing with the first reader.
 #![forbid(unsafe_code)]
 
 pub mod binxml;

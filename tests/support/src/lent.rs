@@ -24,7 +24,7 @@ impl<T: Copy + PartialEq> Lent<T> {
         self.memory[self.start..].as_mut_ptr()
     }
 
-    pub fn len(&self) -> usize {
+    pub fn length(&self) -> usize {
         self.length
     }
 
@@ -105,6 +105,7 @@ mod tests {
         assert!(!list.holds_only(&[7, 8]));
         assert!(!list.holds_only(&[7; 5]));
     }
+
     #[test]
     fn no_text_looks_like_unchanged_memory() {
         let output = Lent::output(300);

@@ -66,7 +66,7 @@ pub fn for_each<E>(
     base: u64,
     list: &mut dyn FnMut(&File) -> Result<(), E>,
 ) -> Result<(), (File, E)> {
-    let stock = Stock::new();
+    let stock = Stock::of_boundaries();
     for round in 0..SOUND + CUT + DAMAGED {
         let seed = round_seed(base, 0, round);
         let random = &mut Random::new(seed);

@@ -36,15 +36,15 @@ pub fn seal(chunk: &mut [u8], free: usize) {
 
 /// A chunk of up to `most` records; its header holds anything.
 pub fn chunk(random: &mut Random, stock: &Stock, most: usize) -> Made {
-    chunk_with(random, stock, most, false)
+    generate(random, stock, most, false)
 }
 
 /// The same, with chains of elements around the limits of depth.
 pub fn deep_chunk(random: &mut Random, stock: &Stock) -> Made {
-    chunk_with(random, stock, 2, true)
+    generate(random, stock, 2, true)
 }
 
-fn chunk_with(random: &mut Random, stock: &Stock, most: usize, chain: bool) -> Made {
+fn generate(random: &mut Random, stock: &Stock, most: usize, chain: bool) -> Made {
     let mut chunk = vec![0; CHUNK];
     let header = random.bytes(DATA);
     put(&mut chunk, 0, &header);
@@ -59,9 +59,10 @@ fn chunk_with(random: &mut Random, stock: &Stock, most: usize, chain: bool) -> M
     let mut records = Vec::new();
     let mut offset = DATA + random.pick(&[0, 0, 0, 1, 77]);
     for number in 0..most {
-        let scope = match chain {
-            true => chain_scope(random),
-            false => Scope { kinds: &[], elements: 4, fragments: 2, chain },
+        let scope = if chain {
+            chain_scope(random)
+        } else {
+            Scope { kinds: &[], elements: 4, fragments: 2, chain }
         };
         let Some(placed) = one_more(&mut chunk, &mut trees, offset, number, scope) else { break };
         offset += placed.size;

@@ -1,7 +1,7 @@
 //! The kinds of generated questions.
 
-use super::chunks::{chunk, deep_chunk, Made};
-use super::edits::{edited as edit, edited_and_cut};
+use super::chunks::{chunk, deep_chunk, Made, Placed};
+use super::edits;
 use super::stock::Stock;
 use crate::boundaries;
 use crate::question::Question;
@@ -29,25 +29,27 @@ pub fn sound(random: &mut Random, stock: &Stock, _: usize) -> Vec<Question> {
     vec![Question { offsets, ..Question::new("", made.chunk) }]
 }
 
-pub fn edited(random: &mut Random, stock: &Stock, _: usize) -> Vec<Question> {
-    let made = chunk(random, stock, 4);
+type Edit = fn(&mut Random, &Made, &Placed) -> Vec<u8>;
+
+/// Edits of one chunk, each of one of its records.
+fn edited_by(random: &mut Random, made: &Made, edit: Edit) -> Vec<Question> {
     let mut questions = Vec::new();
     for _ in 0..30 {
         let placed = &made.records[random.below(made.records.len())];
-        questions.push(ask(edit(random, &made, placed), placed.offset));
+        questions.push(ask(edit(random, made, placed), placed.offset));
     }
     questions
+}
+
+pub fn edited(random: &mut Random, stock: &Stock, _: usize) -> Vec<Question> {
+    let made = chunk(random, stock, 4);
+    edited_by(random, &made, edits::edited)
 }
 
 /// A field is changed, and the length around it ends in it or a few bytes later.
 pub fn cut_behind(random: &mut Random, stock: &Stock, _: usize) -> Vec<Question> {
     let made = chunk(random, stock, 3);
-    let mut questions = Vec::new();
-    for _ in 0..30 {
-        let placed = &made.records[random.below(made.records.len())];
-        questions.push(ask(edited_and_cut(random, &made, placed), placed.offset));
-    }
-    questions
+    edited_by(random, &made, edits::edited_and_cut)
 }
 
 /// The last record of a chunk with another size, and both copies of it.
@@ -71,7 +73,7 @@ pub fn resized(random: &mut Random, stock: &Stock, _: usize) -> Vec<Question> {
     questions
 }
 
-/// The first record of a chunk, of at most `most` bytes.
+/// A chunk of one record, of `least` to `most` bytes.
 fn small_record(random: &mut Random, stock: &Stock, least: usize, most: usize) -> Made {
     loop {
         let made = chunk(random, stock, 1);
@@ -128,7 +130,7 @@ pub fn boundary_values(_: &mut Random, _: &Stock, round: usize) -> Vec<Question>
 /// Chains of elements around the limits of depth.
 pub fn deep(random: &mut Random, stock: &Stock, _: usize) -> Vec<Question> {
     let made = deep_chunk(random, stock);
-    let ask_one = |placed: &super::chunks::Placed| ask(made.chunk.clone(), placed.offset);
+    let ask_one = |placed: &Placed| ask(made.chunk.clone(), placed.offset);
     made.records.iter().map(ask_one).collect()
 }
 

@@ -12,13 +12,14 @@ const UNITS: [u16; 24] = [
     0x800, 0x20ac, 0xfffd, 0xfffe, 0xd83d, 0xde00, 0xdbff,
 ];
 
+/// The short values at the boundaries of their types; each list is by type.
 pub struct Stock {
     right: Vec<Vec<Value>>,
     wrong: Vec<Vec<Value>>,
 }
 
 impl Stock {
-    pub fn new() -> Stock {
+    pub fn of_boundaries() -> Stock {
         let mut stock = Stock { right: empty_lists(), wrong: empty_lists() };
         for value in boundaries::all().into_iter().filter(|value| value.bytes.len() <= LONGEST) {
             let lists = match value_text(value.kind, &value.bytes) {
@@ -41,12 +42,6 @@ impl Stock {
             }
             count => lists[kind_at][random.below(count)].bytes.clone(),
         }
-    }
-}
-
-impl Default for Stock {
-    fn default() -> Stock {
-        Stock::new()
     }
 }
 

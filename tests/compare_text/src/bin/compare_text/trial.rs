@@ -1,6 +1,5 @@
-//! One question on trial: the text of each record it asks for, with rooms
-//! around the text's length, is asked of both readers. The lent memory is
-//! checked after each call.
+//! One question to both readers: the text of each record it asks for, with rooms
+//! around the text's length. The lent memory is checked after each call.
 
 use compare_text::question::{Expected, Question};
 use first_reader::answers::Text;
@@ -101,7 +100,7 @@ fn memory_note(out: &Lent<u8>, text: &[u8], input_kept: bool) -> &'static str {
 }
 
 fn describe(answer: &Text, out: &Lent<u8>) -> String {
-    let kept = (answer.length as usize).min(out.len());
+    let kept = (answer.length as usize).min(out.length());
     let text = String::from_utf8_lossy(&out.now()[..kept]);
     shown(&format!("number {}, length {}, {text}", answer.number, answer.length))
 }
