@@ -1,5 +1,5 @@
-/* The rate of the check of a chunk, which is that of its two checksums, over the same bytes beside zlib's crc32 and beside a loop in C over
-   a table of 256 entries, which is how the proved one works: crc LOG. */
+/* The rate of the check of a chunk, which is that of its two checksums, beside zlib's crc32 and beside a loop in C that takes a byte at a
+   time through a table of 256 entries, over the same bytes: crc LOG. */
 #define _POSIX_C_SOURCE 200809L
 #include <stdint.h>
 #include <stdio.h>
@@ -12,14 +12,15 @@ enum { HEADER = 4096, CHUNK = 65536, MOST = 512 * CHUNK, TRIES = 15 };
 
 static uint8_t log_bytes[HEADER + MOST];
 
-static uint32_t four(const uint8_t *at)
+static uint32_t u32_at(const uint8_t *at)
 {
     return at[0] | (uint32_t)at[1] << 8 | (uint32_t)at[2] << 16 | (uint32_t)at[3] << 24;
 }
 
+/* How many bytes of the chunk its two checksums cover. */
 static size_t summed(const uint8_t *chunk)
 {
-    return 504 + four(chunk + 48) - 512;
+    return 504 + u32_at(chunk + 48) - 512;
 }
 
 static uint32_t table[256];
@@ -44,7 +45,7 @@ __attribute__((noinline)) static uint32_t update(uint32_t state, const uint8_t *
 static int loop_check(const uint8_t *chunk)
 {
     uint32_t header = ~update(update(~0u, chunk, 120), chunk + 128, 384);
-    return header == four(chunk + 124) && ~update(~0u, chunk + 512, four(chunk + 48) - 512) == four(chunk + 52);
+    return header == u32_at(chunk + 124) && ~update(~0u, chunk + 512, u32_at(chunk + 48) - 512) == u32_at(chunk + 52);
 }
 
 static int proved_check(const uint8_t *chunk)
@@ -55,7 +56,7 @@ static int proved_check(const uint8_t *chunk)
 static int zlib_check(const uint8_t *chunk)
 {
     uLong header = crc32(crc32(0, chunk, 120), chunk + 128, 384);
-    return header == four(chunk + 124) && crc32(0, chunk + 512, four(chunk + 48) - 512) == four(chunk + 52);
+    return header == u32_at(chunk + 124) && crc32(0, chunk + 512, u32_at(chunk + 48) - 512) == u32_at(chunk + 52);
 }
 
 static double seconds(int (*check)(const uint8_t *), size_t chunks)

@@ -18,9 +18,9 @@ def number(data, at, width):
     return int.from_bytes(data[at:at + width], 'little')
 
 
-def instances(chunk, start, found):
-    """Notes the instance that stands behind the stream header at `start`, and those in its values: whether its definition lies in it, and
-    its values as (type, offset, size)."""
+def instances(chunk, start):
+    """The instance that stands behind the stream header at `start`, and those in its values: whether its definition lies in it, and its
+    values as (type, offset, size)."""
     at = start + 5
     own = number(chunk, at + 5, 4) == at + 9
     at += 9
@@ -29,14 +29,14 @@ def instances(chunk, start, found):
     count = number(chunk, at, 4)
     place = at + 4 + 4 * count
     values = []
-    for k in range(count):
-        size, kind = number(chunk, at + 4 + 4 * k, 2), chunk[at + 6 + 4 * k]
+    for descriptor in range(at + 4, at + 4 + 4 * count, 4):
+        size, kind = number(chunk, descriptor, 2), chunk[descriptor + 2]
         values.append((kind, place, size))
         place += size
-    found.append((own, values))
+    yield own, values
     for kind, offset, size in values:
         if kind == BIN_XML and size:
-            instances(chunk, offset, found)
+            yield from instances(chunk, offset)
 
 
 def records(chunk):
@@ -50,15 +50,10 @@ def records(chunk):
 
 def filled(chunk):
     """The chunk with records that hold no definition of their own copied behind its last one, as long as they fit. Answers it, the
-    records' offsets, and their instances."""
+    records' offsets, and their values."""
     chunk = bytearray(chunk)
     placed, free = list(records(chunk)), number(chunk, 48, 4)
-    movable = []
-    for at, size in placed:
-        found = []
-        instances(chunk, at + 24, found)
-        if not any(own for own, _ in found):
-            movable.append((at, size))
+    movable = [(at, size) for at, size in placed if not any(own for own, _ in instances(chunk, at + 24))]
     turn = 0
     while free + movable[turn % len(movable)][1] <= CHUNK:
         at, size = movable[turn % len(movable)]
@@ -66,18 +61,14 @@ def filled(chunk):
         placed.append((free, size))
         free += size
         turn += 1
-    values = []
-    for at, _ in placed:
-        found = []
-        instances(chunk, at + 24, found)
-        values.append([value for _, part in found for value in part])
+    values = [[value for _, part in instances(chunk, at + 24) for value in part] for at, _ in placed]
     struct.pack_into('<I', chunk, 48, free)
     return bytes(chunk), [at for at, _ in placed], values
 
 
-def renewed(mold, first, draw):
-    """A chunk of the mold with records numbered from `first` on and other numbers in them, and the number after its last."""
-    chunk, offsets, values = bytearray(mold[0]), mold[1], mold[2]
+def renewed(model, first, draw):
+    """A filled chunk with records numbered from `first` on and other numbers in them, and the number after its last."""
+    chunk, offsets, values = bytearray(model[0]), model[1], model[2]
     for index, at in enumerate(offsets):
         struct.pack_into('<Q', chunk, at + 8, first + index)
         for kind, offset, size in values[index]:
@@ -93,10 +84,10 @@ def renewed(mold, first, draw):
 
 def main(samples, out, chunks=320):
     logs = [open(f'{samples}/{name}.evtx', 'rb').read() for name in ('windows', 'panel')]
-    molds = [filled(log[at:at + CHUNK]) for at in (HEADER, HEADER + CHUNK) for log in logs]
+    models = [filled(log[at:at + CHUNK]) for at in (HEADER, HEADER + CHUNK) for log in logs]
     header, draw, due, body = bytearray(logs[0][:HEADER]), random.Random(1), 1, []
     for turn in range(int(chunks)):
-        chunk, due = renewed(molds[turn % len(molds)], due, draw)
+        chunk, due = renewed(models[turn % len(models)], due, draw)
         body.append(chunk)
     struct.pack_into('<QQQ', header, 8, 0, len(body) - 1, due)
     struct.pack_into('<H', header, 0x2A, len(body))

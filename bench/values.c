@@ -136,13 +136,13 @@ static int compare(const char *name, uint8_t kind)
         return 1;
     }
     /* the best of some tries, in turn, so that another process disturbs both alike */
-    double c = 0, proved = 0;
+    double in_c = 0, proved = 0;
     for (int k = 0; k < TRIES; k++) {
-        double a = rate(0, kind), b = rate(1, kind);
-        c = a > c ? a : c;
-        proved = b > proved ? b : proved;
+        double c_rate = rate(0, kind), proved_rate = rate(1, kind);
+        in_c = c_rate > in_c ? c_rate : in_c;
+        proved = proved_rate > proved ? proved_rate : proved;
     }
-    printf("%s: C %.0f MB/s, proved %.0f MB/s, ratio %.2f\n", name, c, proved, proved / c);
+    printf("%s: C %.0f MB/s, proved %.0f MB/s, ratio %.2f\n", name, in_c, proved, proved / in_c);
     return 0;
 }
 

@@ -23,7 +23,7 @@ static void print_verdict(uint32_t number)
         printf("refused %" PRIu32 "\n", number);
 }
 
-/* Where a record of the chunk must end to be listed: a sound chunk says where its free space begins, another's word is not taken. */
+/* Where a record of the chunk must end to be listed: where its free space begins, as a sound chunk says. A refused one is listed whole. */
 static uint64_t limit_of(uint32_t number)
 {
     if (number != 0)
@@ -50,14 +50,14 @@ static void list_record(uint32_t offset, uint64_t limit)
     }
 }
 
-static void list_chunk(uint64_t k)
+static void list_chunk(uint64_t index)
 {
     uint32_t number = evtx_check_chunk(chunk, CHUNK).number;
     uint64_t limit = limit_of(number);
     uint64_t count = evtx_search_chunk(chunk, CHUNK, offsets, RECORDS).length;
     uint64_t i;
 
-    printf("chunk %" PRIu64 " ", k);
+    printf("chunk %" PRIu64 " ", index);
     print_verdict(number);
     for (i = 0; i < count; i++)
         list_record(offsets[i], limit);
@@ -66,14 +66,14 @@ static void list_chunk(uint64_t k)
 static void list_log(FILE *log)
 {
     size_t length = fread(header, 1, HEADER, log);
-    uint64_t k = 0;
+    uint64_t index = 0;
 
     printf("header ");
     print_verdict(evtx_check_file_header(header, length).number);
     if (length < HEADER)
         return;
     while ((length = fread(chunk, 1, CHUNK, log)) == CHUNK)
-        list_chunk(k++);
+        list_chunk(index++);
     if (length > 0)
         printf("rest %zu\n", length);
 }

@@ -68,11 +68,11 @@ def verdict(number):
     return b"ok" if number == 0 else b"refused %d" % number
 
 
-def chunk_lines(library, k, chunk):
+def chunk_lines(library, index, chunk):
     number = library.check_chunk(chunk)
-    # A sound chunk says where its free space begins; another's word is not taken.
+    # A sound chunk says where its free space begins; a refused one is listed whole.
     limit = int.from_bytes(chunk[48:52], "little") if number == 0 else CHUNK
-    yield b"chunk %d " % k + verdict(number)
+    yield b"chunk %d " % index + verdict(number)
     for offset in library.search_chunk(chunk):
         if library.record_end(chunk, offset) <= limit:
             refused, text = library.record_text(chunk, offset)
@@ -84,10 +84,10 @@ def lines(library, log):
     yield b"header " + verdict(library.check_file_header(header))
     if len(header) < HEADER:
         return
-    k, chunk = 0, log.read(CHUNK)
+    index, chunk = 0, log.read(CHUNK)
     while len(chunk) == CHUNK:
-        yield from chunk_lines(library, k, chunk)
-        k, chunk = k + 1, log.read(CHUNK)
+        yield from chunk_lines(library, index, chunk)
+        index, chunk = index + 1, log.read(CHUNK)
     if chunk:
         yield b"rest %d" % len(chunk)
 

@@ -28,9 +28,9 @@ fn print_log(log: &[u8], out: &mut impl Write) -> std::io::Result<()> {
         writeln!(out, "header: {refusal:?}")?;
     }
     let mut list = [0; RECORDS_OF_A_CHUNK];
-    for (k, chunk) in rest.chunks_exact(CHUNK).enumerate() {
+    for (index, chunk) in rest.chunks_exact(CHUNK).enumerate() {
         if let Err(refusal) = check_chunk(chunk) {
-            writeln!(out, "chunk {k}: {refusal:?}")?;
+            writeln!(out, "chunk {index}: {refusal:?}")?;
         }
         for offset in search_chunk(chunk, &mut list).expect("a whole chunk and room enough") {
             print_record(chunk, u64::from(*offset), out)?;

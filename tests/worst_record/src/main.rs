@@ -1,7 +1,7 @@
 //! How long the text of the longest-running records takes, with room for 65,536
 //! bytes: one large value or one long name is written as often as the limit of
 //! 65,536 attributes and items allows. The text is far longer than the room, so
-//! each call counts it and answers 13.
+//! each call answers 13.
 
 use first_reader::record_text;
 use log_writer::*;
@@ -76,7 +76,7 @@ fn main() {
         ("a string of quotation marks", one_value(0x01, &[0x22, 0]), values),
         ("elements of one name", one_name(), names),
     ];
-    println!("the text of one record, room {ROOM}: answer 13 after all was counted");
+    println!("the text of one record, room {ROOM}: each answer is 13");
     for (name, mut chunk, bytes) in kinds {
         let took = seconds(&mut chunk, &mut out);
         let read = bytes * 1e-9;
