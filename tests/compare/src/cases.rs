@@ -9,7 +9,7 @@ mod loose;
 use crate::trial::{Calls, Case};
 use log_writer::Random;
 use support::difference::{Difference, Outcome};
-use support::seed::round_seed;
+use support::kinds::{rounds, Kind};
 
 /// The number for a run that is given none.
 pub const SEED: u64 = 0x0065_7674_7800_0001;
@@ -24,13 +24,7 @@ pub struct Input {
 /// Makes inputs from random numbers and the number of the round.
 type Make = fn(&mut Random, usize) -> Vec<Input>;
 
-struct Kind {
-    name: &'static str,
-    rounds: usize,
-    make: Make,
-}
-
-const KINDS: [Kind; 28] = [
+const KINDS: [Kind<Make>; 28] = [
     Kind { name: "sample files", rounds: 3, make: files::sample },
     Kind { name: "damaged sample files", rounds: 12, make: files::damaged_sample },
     Kind { name: "sound files", rounds: 40, make: files::sound },
@@ -67,18 +61,15 @@ pub fn for_each(
     use_case: &mut dyn FnMut(&Case) -> Outcome,
 ) -> Result<usize, (Case, Difference)> {
     let mut count = 0;
-    for (index, kind) in KINDS.iter().enumerate() {
-        for round in 0..kind.rounds {
-            let seed = round_seed(base, index, round);
-            let inputs = (kind.make)(&mut Random::new(seed), round);
-            for (part, input) in inputs.into_iter().enumerate() {
-                let Input { bytes, behind, calls } = input;
-                let case = Case { kind: kind.name, seed, part, bytes, behind, calls };
-                if let Err(difference) = use_case(&case) {
-                    return Err((case, difference));
-                }
-                count += 1;
+    for (kind, seed, round) in rounds(&KINDS, base) {
+        let inputs = (kind.make)(&mut Random::new(seed), round);
+        for (part, input) in inputs.into_iter().enumerate() {
+            let Input { bytes, behind, calls } = input;
+            let case = Case { kind: kind.name, seed, part, bytes, behind, calls };
+            if let Err(difference) = use_case(&case) {
+                return Err((case, difference));
             }
+            count += 1;
         }
     }
     Ok(count)

@@ -12,7 +12,7 @@ mod trees;
 
 use crate::question::Question;
 use log_writer::Random;
-use support::seed::round_seed;
+use support::kinds::{rounds, Kind};
 
 pub use chunks::{chunk as sound_chunk, seal, Made};
 pub use samples::damaged_sample;
@@ -24,13 +24,7 @@ pub const SEED: u64 = 0x0065_7674_7800_0002;
 /// Makes questions from random numbers and the number of the round.
 type Make = fn(&mut Random, &Stock, usize) -> Vec<Question>;
 
-struct Kind {
-    name: &'static str,
-    rounds: usize,
-    make: Make,
-}
-
-const KINDS: [Kind; 13] = [
+const KINDS: [Kind<Make>; 13] = [
     Kind { name: "sample chunks", rounds: 7, make: samples::whole },
     Kind { name: "damaged sample chunks", rounds: 100, make: samples::damaged },
     Kind { name: "sound chunks", rounds: 800, make: kinds::sound },
@@ -56,17 +50,12 @@ pub fn for_each<E>(
     ask: &mut dyn FnMut(&Question) -> Result<(), E>,
 ) -> Result<(), (Question, E)> {
     let stock = Stock::of_boundaries();
-    for (index, kind) in KINDS.iter().enumerate() {
-        for round in 0..kind.rounds {
-            let seed = round_seed(base, index, round);
-            let questions = (kind.make)(&mut Random::new(seed), &stock, round);
-            for (part, mut question) in questions.into_iter().enumerate() {
-                question.name = kind.name.to_string();
-                question.seed = seed;
-                question.part = part;
-                if let Err(error) = ask(&question) {
-                    return Err((question, error));
-                }
+    for (kind, seed, round) in rounds(&KINDS, base) {
+        let questions = (kind.make)(&mut Random::new(seed), &stock, round);
+        for (part, question) in questions.into_iter().enumerate() {
+            let question = Question { name: kind.name.to_string(), seed, part, ..question };
+            if let Err(error) = ask(&question) {
+                return Err((question, error));
             }
         }
     }

@@ -119,10 +119,12 @@ unsafe impl Lendable<u8> for Fenced {
 }
 
 /// A list, of four bytes for each entry.
-// Safety: as for bytes; they begin at a multiple of four, as pages and lists do.
+// Safety: as for bytes, and they begin where an entry may.
 unsafe impl Lendable<u32> for Fenced {
     fn pointer(&mut self) -> *mut u32 {
-        Fenced::pointer(self).cast()
+        let list: *mut u32 = Fenced::pointer(self).cast();
+        assert!(list.is_aligned(), "the length of a list is a multiple of four");
+        list
     }
 
     fn length(&self) -> usize {

@@ -3,11 +3,13 @@
 #![forbid(unsafe_code)]
 
 mod bytes;
+mod headers;
 mod random;
 mod records;
 mod writer;
 
 pub use bytes::*;
+pub use headers::*;
 pub use random::Random;
 pub use records::*;
 pub use writer::*;

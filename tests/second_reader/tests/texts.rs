@@ -152,13 +152,13 @@ fn records_beyond_the_free_space() {
     let second_at = 512 + first.len();
     let mut chunk = chunk_with(512, &[first, record(5, &[])].concat());
     let file = |chunk: &[u8]| [&[0; 4_096][..], chunk, chunk].concat();
-    seal_chunk(&mut chunk, second_at as u32 + 28);
+    seal_chunk(&mut chunk, second_at + 28);
     let whole = "512 18446744073709551615 <P></P>\n";
     let later = format!("{second_at} 5 refused 8\n");
     let expected =
         format!("header refused 2\nchunk 0 ok\n{whole}{later}chunk 1 ok\n{whole}{later}");
     assert_eq!(listing(&file(&chunk)), expected.as_bytes());
-    seal_chunk(&mut chunk, second_at as u32 + 27);
+    seal_chunk(&mut chunk, second_at + 27);
     let expected = format!("header refused 2\nchunk 0 ok\n{whole}chunk 1 ok\n{whole}");
     assert_eq!(listing(&file(&chunk)), expected.as_bytes());
     chunk[530] ^= 1;

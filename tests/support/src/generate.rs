@@ -1,7 +1,7 @@
 //! Sound file headers, chunks and records, and bytes rich in beginnings of
 //! records. What a record's binary XML holds does not matter to these calls.
 
-use log_writer::{frame, get_u32, put, put_u32, Random, CHUNK, DATA, HEADER, MAGIC};
+use log_writer::*;
 use second_reader::checksum::crc32;
 
 /// A record of `size` bytes, at least 8, with both copies of its size.
@@ -60,10 +60,8 @@ pub fn seal_file_header(header: &mut [u8]) {
 /// A chunk with the given data, sealed.
 pub fn chunk_of(random: &mut Random, data: &[u8]) -> Vec<u8> {
     let mut chunk = vec![0; CHUNK];
-    put(&mut chunk, 0, b"ElfChnk\0");
+    put_chunk_header(&mut chunk, DATA + data.len());
     put(&mut chunk, 8, &random.bytes(32));
-    put_u32(&mut chunk, 40, 128);
-    put_u32(&mut chunk, 48, (DATA + data.len()) as u32);
     put(&mut chunk, 128, &random.bytes(384));
     put(&mut chunk, DATA, data);
     seal_chunk(&mut chunk);
@@ -82,11 +80,8 @@ pub fn small_chunk(random: &mut Random) -> Vec<u8> {
 }
 
 pub fn sound_file_header(random: &mut Random) -> Vec<u8> {
-    let mut header = vec![0; HEADER];
-    put(&mut header, 0, b"ElfFile\0");
+    let mut header = file_header();
     put(&mut header, 8, &random.bytes(24));
-    put_u32(&mut header, 0x20, 128);
-    put(&mut header, 0x24, &[1, 0, 3, 0, 0, 0x10]);
     put(&mut header, 0x2a, &random.bytes(2));
     put(&mut header, 0x78, &random.bytes(4));
     seal_file_header(&mut header);

@@ -5,6 +5,7 @@
 pub mod damage;
 pub mod difference;
 pub mod generate;
+pub mod kinds;
 pub mod lent;
 pub mod offsets;
 pub mod samples;

@@ -1,14 +1,6 @@
 //! The seed that a comparing program is given, from which all of its inputs
 //! follow.
 
-use log_writer::Random;
-
-/// The seed of one round of a kind of input, by the number of the kind.
-pub fn round_seed(base: u64, kind: usize, round: usize) -> u64 {
-    let place = ((kind as u64) << 32) + round as u64;
-    Random::new(base.wrapping_add(place)).number()
-}
-
 /// Takes `--seed NUMBER` out of the arguments, decimal or hexadecimal after 0x.
 pub fn take_seed(arguments: &mut Vec<String>) -> Result<Option<u64>, String> {
     let Some(at) = arguments.iter().position(|argument| argument == "--seed") else {

@@ -8,10 +8,7 @@ use support::damage::{wrong_chunk_fields, wrong_file_fields};
 use support::generate::seal_file_header;
 
 fn header() -> Vec<u8> {
-    let mut header = vec![0; HEADER];
-    put(&mut header, 0, b"ElfFile\0");
-    put_u32(&mut header, 0x20, 128);
-    put(&mut header, 0x24, &[1, 0, 3, 0, 0, 0x10]);
+    let mut header = file_header();
     seal_file_header(&mut header);
     header
 }

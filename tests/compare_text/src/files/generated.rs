@@ -5,7 +5,7 @@ use crate::generated::{damaged_sample, seal, sound_chunk, Stock};
 use log_writer::{Random, CHUNK, HEADER};
 use support::damage::{flip_bits, wrong_chunk_field, wrong_file_field};
 use support::generate::sound_file_header;
-use support::seed::round_seed;
+use support::kinds::round_seed;
 
 /// The number for a run that is given none.
 pub const SEED: u64 = 0x0065_7674_7800_0003;

@@ -28,9 +28,7 @@ pub struct Made {
 
 /// The header of a chunk and its checksums, for records up to `free`.
 pub fn seal(chunk: &mut [u8], free: usize) {
-    put(chunk, 0, b"ElfChnk\0");
-    put_u32(chunk, 40, 128);
-    put_u32(chunk, 48, free as u32);
+    put_chunk_header(chunk, free);
     seal_chunk(chunk);
 }
 

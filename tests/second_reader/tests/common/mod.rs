@@ -41,19 +41,14 @@ pub fn seal_file_header(header: &mut [u8]) {
 }
 
 pub fn sound_file_header() -> Vec<u8> {
-    let mut header = vec![0; HEADER];
-    put(&mut header, 0, b"ElfFile\0");
-    put_u32(&mut header, 0x20, 128);
-    put(&mut header, 0x24, &[1, 0, 3, 0, 0, 0x10]);
+    let mut header = file_header();
     seal_file_header(&mut header);
     header
 }
 
 /// Gives a chunk a sound header for data up to `free`.
-pub fn seal_chunk(chunk: &mut [u8], free: u32) {
-    put(chunk, 0, b"ElfChnk\0");
-    put_u32(chunk, 40, 128);
-    put_u32(chunk, 48, free);
+pub fn seal_chunk(chunk: &mut [u8], free: usize) {
+    put_chunk_header(chunk, free);
     seal_sums(chunk);
 }
 
