@@ -7,7 +7,7 @@ use support::difference::{Difference, Outcome};
 use support::lent::Lent;
 use support::tally::Tally;
 
-/// An input for all calls, and how it came about.
+/// An input, and how it came about.
 pub struct Case {
     pub kind: &'static str,
     pub seed: u64,

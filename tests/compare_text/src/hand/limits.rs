@@ -38,15 +38,14 @@ fn element_depth() -> Vec<Question> {
 
 /// Fragments inside each other's one value, all instances of the definition at
 /// 40,000: `each` elements around value 0. The innermost value is given.
-fn fragments(depth: usize, each: usize, innermost: Value) -> Vec<u8> {
-    fn inner(w: &mut Writer, depth: usize, innermost: &(u8, Vec<u8>)) {
+fn fragments(depth: usize, each: usize, innermost: (u8, &[u8])) -> Vec<u8> {
+    fn inner(w: &mut Writer, depth: usize, innermost: (u8, &[u8])) {
         match depth {
-            1 => w.pointing(40_000, &[plain(innermost.0, innermost.1.clone())]),
+            1 => w.pointing(40_000, &[plain(innermost.0, innermost.1)]),
             _ => w.pointing(40_000, &[Value::Fragment(&|w| inner(w, depth - 1, innermost))]),
         }
     }
-    let Value::Plain(kind, bytes) = innermost else { panic!("the innermost value is plain") };
-    let mut chunk = one_record(|w| inner(w, depth, &(kind, bytes)));
+    let mut chunk = one_record(|w| inner(w, depth, innermost));
     place(&mut chunk, 40_000, |w| {
         w.bare_definition(|w| deep(w, each, &|w| w.open("e", |w| w.substitution(0x0d, 0))));
     });
@@ -54,19 +53,19 @@ fn fragments(depth: usize, each: usize, innermost: Value) -> Vec<u8> {
 }
 
 fn fragment_depth() -> Vec<Question> {
-    let five = || plain(0x04, [5]);
-    let no_fragment = fragments(8, 1, plain(0x21, []));
-    let mut wrong_bytes = fragments(9, 1, five());
+    let five: (u8, &[u8]) = (0x04, &[5]);
+    let no_fragment = fragments(8, 1, (BIN_XML, &[]));
+    let mut wrong_bytes = fragments(9, 1, five);
     // Each instance takes 22 bytes before its value: the ninth fragment's first byte.
     wrong_bytes[BODY + 8 * 22] = 0xff;
     vec![
-        Question::text("fragments 8 deep", fragments(8, 1, five()), nested_text(8, "5")),
-        Question::refused("10: fragments 9 deep", fragments(9, 1, five()), 12),
+        Question::text("fragments 8 deep", fragments(8, 1, five), nested_text(8, "5")),
+        Question::refused("10: fragments 9 deep", fragments(9, 1, five), 12),
         Question::refused("fragments 9 deep, before the bytes", wrong_bytes, 12),
-        Question::text("elements 32 deep over 8", fragments(8, 4, five()), nested_text(32, "5")),
-        Question::refused("elements 35 deep over 7", fragments(7, 5, five()), 12),
+        Question::text("elements 32 deep over 8", fragments(8, 4, five), nested_text(32, "5")),
+        Question::refused("elements 35 deep over 7", fragments(7, 5, five), 12),
         Question::text("9: BinXml of size 0, 8 deep", no_fragment, nested_text(8, "")),
-        Question::refused("9: BinXml of size 1, 8 deep", fragments(8, 1, plain(0x21, [0])), 12),
+        Question::refused("9: BinXml of size 1, 8 deep", fragments(8, 1, (BIN_XML, &[0])), 12),
     ]
 }
 

@@ -1,19 +1,24 @@
 //! Pointers to names and definitions: from where on, up to where, and into what.
 
 use super::flat;
-use crate::question::Question;
+use crate::question::{Expected, Question};
 use log_writer::*;
 
 const AT: usize = 5_000;
 
-/// A record at 5,000 of an element whose name is pointed to.
-fn name_at(target: usize, place_at: usize) -> Question {
-    let mut chunk = pointing_name(target);
-    let mut name = Writer::at(0);
+/// A chunk with what was written at an offset, up to the chunk's end, and what
+/// of it stands behind the chunk.
+fn placed(mut chunk: Vec<u8>, offset: usize, thing: Writer, text: &str) -> Question {
+    let fits = thing.bytes.len().min(CHUNK - offset);
+    put(&mut chunk, offset, &thing.bytes[..fits]);
+    Question::text("", chunk, text).at(AT as u64).behind(&thing.bytes[fits..])
+}
+
+/// A record at 5,000 of an element whose name is the one at an offset.
+fn name_at(offset: usize) -> Question {
+    let mut name = Writer::at(offset);
     name.bare_name("far");
-    let fits = name.bytes.len().min(CHUNK - place_at);
-    put(&mut chunk, place_at, &name.bytes[..fits]);
-    Question::text("", chunk, "<far/>").at(AT as u64).behind(&name.bytes[fits..])
+    placed(pointing_name(offset), offset, name, "<far/>")
 }
 
 fn pointing_name(target: usize) -> Vec<u8> {
@@ -25,35 +30,33 @@ fn pointing_name(target: usize) -> Vec<u8> {
     })
 }
 
-/// A record at 5,000 of an instance whose definition is pointed to.
-fn definition_at(target: usize, place_at: usize) -> Question {
-    let mut chunk = record_at(AT, |w| w.pointing(target, &[plain(0x04, [9])]));
-    let mut definition = Writer::at(place_at);
+/// A record at 5,000 of an instance whose definition is the one at an offset.
+fn definition_at(offset: usize) -> Question {
+    let chunk = record_at(AT, |w| w.pointing(offset, &[plain(0x04, [9])]));
+    let mut definition = Writer::at(offset);
     definition.bare_definition(|w| w.open("D", |w| w.substitution(0x0d, 0)));
-    let fits = definition.bytes.len().min(CHUNK - place_at);
-    put(&mut chunk, place_at, &definition.bytes[..fits]);
-    Question::text("", chunk, "<D>9</D>").at(AT as u64).behind(&definition.bytes[fits..])
+    placed(chunk, offset, definition, "<D>9</D>")
 }
 
 fn named(name: &str, question: Question) -> Question {
     Question { name: name.to_string(), ..question }
 }
 
-fn nine(name: &str, question: Question) -> Question {
-    named(name, Question { expected: Question::refused("", Vec::new(), 9).expected, ..question })
+fn leaving(name: &str, question: Question) -> Question {
+    Question { expected: Some(Expected::Refused(9)), ..named(name, question) }
 }
 
 /// The name takes 16 bytes, the definition 58.
 fn at_the_bounds() -> Vec<Question> {
     vec![
-        named("pointer 512, name", name_at(512, 512)),
-        nine("pointer 511, name", name_at(511, 511)),
-        named("a name that ends at 65,536", name_at(65_520, 65_520)),
-        nine("a name that ends at 65,537", name_at(65_521, 65_521)),
-        named("pointer 512, definition", definition_at(512, 512)),
-        nine("pointer 511, definition", definition_at(511, 511)),
-        named("a definition that ends at 65,536", definition_at(65_478, 65_478)),
-        nine("a definition that ends at 65,537", definition_at(65_479, 65_479)),
+        named("pointer 512, name", name_at(512)),
+        leaving("pointer 511, name", name_at(511)),
+        named("a name that ends at 65,536", name_at(65_520)),
+        leaving("a name that ends at 65,537", name_at(65_521)),
+        named("pointer 512, definition", definition_at(512)),
+        leaving("pointer 511, definition", definition_at(511)),
+        named("a definition that ends at 65,536", definition_at(65_478)),
+        leaving("a definition that ends at 65,537", definition_at(65_479)),
     ]
 }
 

@@ -116,7 +116,7 @@ fn cut_elements() -> Vec<Question> {
     cases
 }
 
-fn nineteen(name: &str, chunk: Vec<u8>) -> Question {
+fn inline_refused(name: &str, chunk: Vec<u8>) -> Question {
     Question::refused(format!("19: {name}"), chunk, 8)
 }
 
@@ -139,9 +139,9 @@ fn inline_names() -> Vec<Question> {
         });
     });
     vec![
-        nineteen("a name that leaves its element", name),
-        nineteen("an attribute's name that leaves its list", attribute_name),
-        nineteen("a name that leaves the chunk", first_with(&[(595, &[0xff, 0xff])])),
+        inline_refused("a name that leaves its element", name),
+        inline_refused("an attribute's name that leaves its list", attribute_name),
+        inline_refused("a name that leaves the chunk", first_with(&[(595, &[0xff, 0xff])])),
     ]
 }
 
@@ -159,13 +159,13 @@ fn inline_definitions() -> Vec<Question> {
     };
     vec![
         Question::text("19: a definition in a value", value.clone(), "<P><i/></P>"),
-        nineteen("a value that ends in the count", cut_value(1)),
-        nineteen("a value that ends with the definition", cut_value(4)),
-        nineteen("a value that ends in the definition", cut_value(5)),
-        nineteen("a value that ends in the fixed part", cut_value(35)),
-        nineteen("a definition that leaves the record", first_with(&[(570, &[45])])),
-        nineteen("a definition up to the record's end", first_with(&[(570, &[44])])),
-        nineteen("a definition that leaves the chunk", first_with(&[(572, &[1])])),
+        inline_refused("a value that ends in the count", cut_value(1)),
+        inline_refused("a value that ends with the definition", cut_value(4)),
+        inline_refused("a value that ends in the definition", cut_value(5)),
+        inline_refused("a value that ends in the fixed part", cut_value(35)),
+        inline_refused("a definition that leaves the record", first_with(&[(570, &[45])])),
+        inline_refused("a definition up to the record's end", first_with(&[(570, &[44])])),
+        inline_refused("a definition that leaves the chunk", first_with(&[(572, &[1])])),
     ]
 }
 
