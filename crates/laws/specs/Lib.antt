@@ -7,3 +7,4 @@ pub mod Digits
 pub mod Decoding
 pub mod Calendar
 pub mod Times
+pub mod Tables

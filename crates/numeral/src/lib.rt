@@ -4,7 +4,7 @@ ghost use mathlib.Core.List.{[]};
 ghost use Prim.Native.Nat.{_+_, _/_, _^_, _≤_, _<_};
 ghost use lib.ListN.{length, take};
 ghost use Rattle.output.specs.Output.{Wrote};
-ghost use Rattle.output.specs.Tables.{tabled};
+ghost use Rattle.laws.specs.Tables.{tabled};
 ghost use Rattle.rules.specs.Bytes.{number};
 ghost use Rattle.rules.specs.Numerals.{lower, upper, digits, decimal, shortHex, lastDigits, padded, upperHex, unsigned, signed, allHex, hexPairs};
 ghost use Rattle.numeral.specs.Digits.{Base, cased};

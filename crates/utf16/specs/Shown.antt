@@ -7,7 +7,7 @@ use native.Mathlib.Omega.{arith}
 use borrow.Author.Tests.{leb-true, eqb-false, not-true, le-leb, lt-ltb, ne-eqb}
 use lib.Dec.{eqb, leb}
 use lib.ListN.{getD}
-use Rattle.output.specs.Tables.{tabled, tabled-at}
+use Rattle.laws.specs.Tables.{tabled, tabled-at}
 use Rattle.rules.specs.Bytes.{if_then_else_}
 use Rattle.rules.specs.Strings.{isXml, utf8, escapes, carried, shown, allShown, completed}
 use Rattle.laws.specs.Tests.{both}

@@ -1,7 +1,7 @@
 -- `put_pair` meets its contract.
 use Prim.Native.Nat.{_/_, _%_}
 use Rattle.output.specs.Output.{wrote-more}
-use Rattle.output.specs.Tables.{tabled-at}
+use Rattle.laws.specs.Tables.{tabled-at}
 use Rattle.rules.specs.Numerals.{upper}
 use Rattle.numeral.specs.Digits.{byte-pair}
 use native.Mathlib.Omega.{arith}
