@@ -29,7 +29,7 @@ else
     status=1
 fi
 
-echo "public readers, of this log and of the samples; what differs by convention is counted and named:"
+echo "public readers; what differs by convention is counted and named:"
 errors=target/compare/outside.errors
 python3 tests/outside_readers.py "$program" "$log" 2>"$errors"
 case $? in

@@ -5,7 +5,7 @@
 
 Run by hand, with no part in the gate. The readers are evtxexport (Debian's
 libevtx-utils) and python-evtx (python3-evtx); those that are installed are
-asked. The logs are the samples, and those given. Records are compared field by
+asked. The logs are those given, or the samples. Records are compared field by
 field: each element's text and each attribute. A field may differ by one of the
 conventions below; they are counted and named. Exit status: 0, 1 if something
 else differs, 77 if neither reader is installed.
@@ -276,7 +276,7 @@ def main(arguments):
         print("skipped: neither evtxexport (libevtx-utils) nor python3-evtx is installed")
         return 77
     samples = os.path.join(os.path.dirname(os.path.abspath(__file__)), "..", "samples")
-    logs = sorted(glob.glob(os.path.join(samples, "*.evtx"))) + arguments[1:]
+    logs = arguments[1:] or sorted(glob.glob(os.path.join(samples, "*.evtx")))
     print("by form alone, and not counted: indentation, <P/> for <P></P>, an XML declaration")
     agree = True
     for path in logs:
