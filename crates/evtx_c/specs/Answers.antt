@@ -1,6 +1,5 @@
 -- What the structs of the C interface mean: document 01's number, and the values, which are zero in a refusal.
 use Prim.Native.Nat.{ℕ}
-use lib.ListN.{length}
 use Rattle.rules.specs.Answers.{Outcome, value, refused}
 use Rattle.rules.specs.Records.{Range}
 use Rattle.evtx_c.specs.declared.EvtxAnswer.{EvtxAnswer}
