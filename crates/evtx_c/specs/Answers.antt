@@ -1,7 +1,7 @@
 -- What the structs of the C interface mean: document 01's number, and the values, which are zero in a refusal.
 use Prim.Native.Nat.{ℕ}
 use Rattle.rules.specs.Answers.{Outcome, value, refused}
-use Rattle.rules.specs.Records.{Range}
+use Rattle.rules.specs.Records.{Range, RecordFields}
 use Rattle.evtx_c.specs.declared.EvtxAnswer.{EvtxAnswer}
 use Rattle.evtx_c.specs.declared.EvtxFound.{EvtxFound}
 use Rattle.evtx_c.specs.declared.EvtxStretch.{EvtxStretch}
@@ -16,9 +16,9 @@ foundOf (value s) = record { number = 0; offset = s }
 foundOf (refused n p) = record { number = n; offset = 0 }
 
 abbrev pub stretchIn : Outcome Range → EvtxStretch
-stretchIn (value r) = record { number = 0; offset = r .0; length = r .1 }
+stretchIn (value r) = record { number = 0; offset = r .at; length = r .count }
 stretchIn (refused n p) = record { number = n; offset = 0; length = 0 }
 
-abbrev pub fieldsIn : Outcome (ℕ × ℕ) → EvtxFields
-fieldsIn (value f) = record { number = 0; «record_number» = f .0; «written_time» = f .1 }
+abbrev pub fieldsIn : Outcome RecordFields → EvtxFields
+fieldsIn (value f) = record { number = 0; «record_number» = f .recordNumber; «written_time» = f .writtenTime }
 fieldsIn (refused n p) = record { number = n; «record_number» = 0; «written_time» = 0 }

@@ -1,2 +1,4 @@
+pub mod Sums
+pub mod Streams
 pub mod State
 pub mod Whole

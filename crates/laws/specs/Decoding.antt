@@ -1,22 +1,21 @@
 -- UTF-16 is read as the characters that it stands for, UTF-8 as it is written decodes to the characters meant, and CRC-32 has its
 -- published check value.
---     utf16-back : Scalars cs → characters none (inUtf16 cs) ≡ cs
+--     utf16-back : Scalars cs → characters (inUtf16 cs) ≡ cs
 --     utf8-back : Below cs → decode (length cs) (encoded cs) ≡ cs
 --     check-value : crc32 (ascii "123456789") ≡ 0xcbf4_3926
 -- The decoder is the usual one, by the first byte; what it gives is the character, by arithmetic in each of the four lengths.
 use mathlib.Core.Path.{_≡_, refl, ap, ap₂, _∙_}
-use mathlib.Core.Bool.{Bool, true, false, _||_}
+use mathlib.Core.Bool.{Bool, true, false, _&&_, _||_}
 use mathlib.Core.List.{List, [], _∷_, _++_}
-use mathlib.Core.Option.{none}
 use Prim.Native.Nat.{ℕ, zero, suc, _+_, _*_, _-_, _/_, _%_, _<_}
 use native.Mathlib.Nat.{div-div-eq-div-mul}
 use native.Mathlib.Omega.{arith}
-use borrow.Author.Tests.{ltb-true, ltb-false, le-leb, lt-leb, lt-ltb, le-ltb}
+use borrow.Author.Tests.{ltb-true, ltb-false, le-leb, lt-ltb, le-ltb}
 use lib.Dec.{ltb}
 use lib.ListN.{length, drop, getD}
 use lib.Seq.{drop-append-seam}
 use Rattle.rules.specs.Bytes.{if_then_else_, Text, ascii}
-use Rattle.rules.specs.Strings.{isHigh, isLow, characters, utf8}
+use Rattle.rules.specs.Strings.{isHigh, isLow, ofPair, characters, utf8}
 use Rattle.rules.specs.Opened.{opened}
 use Rattle.rules.specs.Checksum.{crc32}
 
@@ -97,30 +96,45 @@ not-high c e = go (isHigh c) (isLow c) e
     go true t e = e
     go false t e = refl
 
-a-pair : (x : ℕ) → x < 0x10_0000 → (us : List ℕ) → characters none ((0xd800 + x / 0x400) ∷ (0xdc00 + x % 0x400) ∷ us) ≡ (0x1_0000 + x) ∷ characters none us
+-- a high unit with a low one behind it is a pair
+pub a-pair : (h l : ℕ) (us : List ℕ) → isHigh h ≡ true → isLow l ≡ true → characters (h ∷ l ∷ us) ≡ ofPair h l ∷ characters us
 unfolding characters
-a-pair x h us =
+a-pair h l us high low = rw (high, low)
+
+-- a unit that is not high stands for itself
+pub one-unit : (u : ℕ) (us : List ℕ) → isHigh u ≡ false → characters (u ∷ us) ≡ u ∷ characters us
+unfolding characters
+one-unit u [] e = refl
+one-unit u (v ∷ us) e = rw e
+
+-- and so does a high unit that has no low one behind it
+pub high-alone : (h u : ℕ) (us : List ℕ) → isLow u ≡ false → characters (h ∷ u ∷ us) ≡ h ∷ characters (u ∷ us)
+unfolding characters
+high-alone h u us e = go (isHigh h)
+  where
+    go : (t : Bool) → (if t && isLow u then ofPair h u ∷ characters us else h ∷ characters (u ∷ us)) ≡ h ∷ characters (u ∷ us)
+    go true = rw e
+    go false = refl
+
+-- a character above U+FFFF is a pair
+above : (x : ℕ) → x < 0x10_0000 → (us : List ℕ) → characters ((0xd800 + x / 0x400) ∷ (0xdc00 + x % 0x400) ∷ us) ≡ (0x1_0000 + x) ∷ characters us
+above x h us =
     let high : isHigh (0xd800 + x / 0x400) ≡ true = rw (le-leb 0xd800 (0xd800 + x / 0x400) (omega arith), le-leb (0xd800 + x / 0x400) 0xdbff (omega arith)) in
     let low : isLow (0xdc00 + x % 0x400) ≡ true = rw (le-leb 0xdc00 (0xdc00 + x % 0x400) (omega arith), le-leb (0xdc00 + x % 0x400) 0xdfff (omega arith)) in
-    let other : isHigh (0xdc00 + x % 0x400) ≡ false = rw (le-leb 0xd800 (0xdc00 + x % 0x400) (omega arith), lt-leb (0xdc00 + x % 0x400) 0xdbff (omega arith)) in
-    rw (high, low, other) (ap (_∷ characters none us) (omega arith))
-
-one-unit : (c : ℕ) → isHigh c ≡ false → (us : List ℕ) → characters none (c ∷ us) ≡ c ∷ characters none us
-unfolding characters
-one-unit c e us = rw e
+    a-pair (0xd800 + x / 0x400) (0xdc00 + x % 0x400) us high low ∙ ap (_∷ characters us) (omega arith)
 
 -- UTF-16 is read as the characters that it stands for
-pub utf16-back : (cs : List ℕ) → Scalars cs → characters none (inUtf16 cs) ≡ cs
+pub utf16-back : (cs : List ℕ) → Scalars cs → characters (inUtf16 cs) ≡ cs
 unfolding characters
 utf16-back [] h = refl
 utf16-back (c ∷ cs) h = go (ltb c 0x1_0000) refl (utf16-back cs (h .1))
   where
-    go : (t : Bool) → ltb c 0x1_0000 ≡ t → characters none (inUtf16 cs) ≡ cs → characters none (inUtf16 (c ∷ cs)) ≡ c ∷ cs
-    go true e ih = rw e (one-unit c (not-high c (h .0 .plain)) (inUtf16 cs) ∙ ap (c ∷_) ih)
+    go : (t : Bool) → ltb c 0x1_0000 ≡ t → characters (inUtf16 cs) ≡ cs → characters (inUtf16 (c ∷ cs)) ≡ c ∷ cs
+    go true e ih = rw e (one-unit c (inUtf16 cs) (not-high c (h .0 .plain)) ∙ ap (c ∷_) ih)
     go false e ih =
         let g = ltb-false c 0x1_0000 e in
         let z : 0x1_0000 + (c - 0x1_0000) ≡ c = omega arith in
-        rw e (a-pair (c - 0x1_0000) (omega (arith, h .0 .below)) (inUtf16 cs) ∙ ap₂ (λ (i : ℕ) (l : List ℕ). i ∷ l) z ih)
+        rw e (above (c - 0x1_0000) (omega (arith, h .0 .below)) (inUtf16 cs) ∙ ap₂ (λ (i : ℕ) (l : List ℕ). i ∷ l) z ih)
 
 -- the check value of CRC-32, over the ASCII digits 1 to 9
 pub check-value : crc32 (ascii "123456789") ≡ 0xcbf4_3926

@@ -1,8 +1,8 @@
 pub mod Tests
 pub mod Locality
 pub mod Search
-pub mod Demand3
 pub mod Listed
+pub mod Demand3
 pub mod Digits
 pub mod Decoding
 pub mod Calendar

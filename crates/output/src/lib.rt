@@ -3,6 +3,7 @@
 ghost use mathlib.Core.Path.{_≡_};
 ghost use mathlib.Core.List.{[], _∷_};
 ghost use lib.Dec.{leb};
+ghost use lib.ListN.{length, replicate};
 ghost use Rattle.output.specs.Output.{Wrote, top as topOf, adv};
 
 // The place that a count stops at, in a memory of so many bytes: one more than these, or 2^63 where there are none.
@@ -61,4 +62,15 @@ pub fn put_text(out: &mut [u8], at: usize, src: &[u8]) -> usize
         i += 1;
     }
     place
+}
+
+// A zero in the place of every byte.
+pub fn clear(out: &mut [u8])
+    ensures { λ _. ⌜ now (out .exit) ≡ replicate (length (now (out .entry))) 0 ⌝ }
+{
+    let mut k = 0;
+    while k < out.len() {
+        out[k] = 0;
+        k += 1;
+    }
 }

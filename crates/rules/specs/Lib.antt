@@ -1,5 +1,6 @@
 pub mod Bytes
 pub mod Answers
+pub mod Limits
 pub mod Checksum
 pub mod Headers
 pub mod Records

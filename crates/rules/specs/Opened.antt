@@ -1,4 +1,4 @@
--- Opens every definition at once, so that an example is computed: `unfolding opened`.
+-- Nothing here need be believed: no rule uses it. It opens every definition at once, so that an example is computed: `unfolding opened`.
 use Rattle.rules.specs.Checksum.{crcBit, crcBits, crcByte, crcOver, crc32}
 use Rattle.rules.specs.Headers.{fileHeaderTests, checkFileHeader, chunkTests, checkChunk}
 use Rattle.rules.specs.Records.{whole, searchFrom, lowestFrom, searchChunk, searchBytes, nextInChunk, nextInBytes, ofRecord, stretchOf, stretchBytes, fieldsOf}

@@ -1,4 +1,5 @@
--- The record of document 01's example, as bytes.
+-- Nothing here need be believed for the rules: none uses it. The record of document 01's example, as bytes; the marked examples
+-- (crate examples) are written with it.
 use mathlib.Core.List.{List, [], _∷_, _++_}
 use Prim.Native.Nat.{ℕ, zero, suc, _+_, _/_, _%_}
 use lib.ListN.{length}

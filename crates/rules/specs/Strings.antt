@@ -1,7 +1,6 @@
 -- Strings: UTF-16 to UTF-8, with the characters of XML escaped.
 use mathlib.Core.Bool.{Bool, _&&_, _||_}
 use mathlib.Core.List.{List, [], _∷_, _++_}
-use mathlib.Core.Option.{Option, none, some}
 use Prim.Native.Nat.{ℕ, _+_, _*_, _-_, _/_, _%_}
 use lib.Dec.{leb, ltb, eqb}
 use Rattle.rules.specs.Bytes.{if_then_else_, Text, ascii}
@@ -16,26 +15,11 @@ isLow u = leb 0xdc00 u && leb u 0xdfff
 abbrev pub ofPair : ℕ → ℕ → ℕ
 ofPair h l = 0x1_0000 + 0x400 * (h - 0xd800) + (l - 0xdc00)
 
--- a high surrogate is carried over to the next unit
-abbrev pub carried : ℕ → Option ℕ
-carried u = if isHigh u then some u else none
-
-abbrev pub unlessHigh : ℕ → List ℕ
-unlessHigh u = if isHigh u then [] else u ∷ []
-
--- the characters that a unit completes, after what was carried over; a surrogate that has no partner stands for itself
-abbrev pub completed : Option ℕ → ℕ → List ℕ
-completed none u = unlessHigh u
-completed (some h) u = if isLow u then ofPair h u ∷ [] else h ∷ unlessHigh u
-
-abbrev pub leftOver : Option ℕ → List ℕ
-leftOver none = []
-leftOver (some h) = h ∷ []
-
--- the characters of UTF-16 units
-unfoldable pub characters : Option ℕ → List ℕ → List ℕ
-characters carry [] = leftOver carry
-characters carry (u ∷ us) = completed carry u ++ characters (carried u) us
+-- the characters of UTF-16 units: a high unit with a low one behind it is a pair and one character; any other unit stands for itself
+unfoldable pub characters : List ℕ → List ℕ
+characters [] = []
+characters (u ∷ []) = u ∷ []
+characters (h ∷ l ∷ us) = if isHigh h && isLow l then ofPair h l ∷ characters us else h ∷ characters (l ∷ us)
 
 -- a character in UTF-8
 unfoldable pub utf8 : ℕ → Text
@@ -77,4 +61,4 @@ allShown (c ∷ cs) = shown c ++ allShown cs
 
 -- the text of a string, of all its units
 unfoldable pub stringText : List ℕ → Text
-stringText us = allShown (characters none us)
+stringText us = allShown (characters us)

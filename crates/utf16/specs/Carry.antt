@@ -1,13 +1,15 @@
--- A high surrogate that is carried over to the next unit, as a number: 0 for none, else one more than its offset.
+-- The characters of UTF-16 units one unit at a time, as the loop goes: a high surrogate is carried over to the next unit.
+--     with-carry : characters us ≡ withCarry none us
 --     text-start, text-unit, text-end : a string's text from any unit on, with what was carried over
+-- What is carried over is a number in the code: 0 for none, else one more than the surrogate's offset.
 use mathlib.Core.Path.{_≡_, refl, ap, sym, _∙_}
-use mathlib.Core.Bool.{true, false}
+use mathlib.Core.Bool.{Bool, true, false}
 use mathlib.Core.List.{List, [], _∷_, _++_, append-assoc, append-nil}
 use mathlib.Core.Option.{Option, none, some}
 use Prim.Native.Nat.{ℕ, suc, _+_, _*_, _-_, _≤_, _<_}
 use native.Mathlib.Numerals.{add-one, add-two}
 use native.Mathlib.Omega.{arith}
-use borrow.Author.Tests.{le-leb, lt-leb, ne-eqb}
+use borrow.Author.Tests.{leb-true, le-leb, lt-leb, ne-eqb}
 use lib.Dec.{eqb}
 use lib.ListN.{length, drop, getD, length-drop}
 use lib.Seq.{drop-cons}
@@ -15,8 +17,68 @@ use Rattle.output.specs.Output.{Wrote}
 use Rattle.output.specs.Loops.{Left, left-step}
 use Rattle.rules.specs.Bytes.{if_then_else_, Text}
 use Rattle.rules.specs.Names.{units}
-use Rattle.rules.specs.Strings.{isHigh, isLow, carried, unlessHigh, completed, leftOver, characters, shown, allShown, stringText}
+use Rattle.rules.specs.Strings.{isHigh, isLow, ofPair, characters, shown, allShown, stringText}
+use Rattle.laws.specs.Decoding.{a-pair, one-unit, high-alone}
+use Rattle.laws.specs.Tests.{both}
 
+-- a high surrogate is carried over to the next unit
+abbrev pub carried : ℕ → Option ℕ
+carried u = if isHigh u then some u else none
+
+-- the unit, unless it is carried over
+abbrev pub unlessHigh : ℕ → List ℕ
+unlessHigh u = if isHigh u then [] else u ∷ []
+
+-- the characters that a unit completes, after what was carried over; a surrogate that has no partner stands for itself
+abbrev pub completed : Option ℕ → ℕ → List ℕ
+completed none u = unlessHigh u
+completed (some h) u = if isLow u then ofPair h u ∷ [] else h ∷ unlessHigh u
+
+-- what was carried over, after the last unit
+abbrev pub leftOver : Option ℕ → List ℕ
+leftOver none = []
+leftOver (some h) = h ∷ []
+
+-- the characters of what was carried over and the units
+unfoldable pub withCarry : Option ℕ → List ℕ → List ℕ
+withCarry carry [] = leftOver carry
+withCarry carry (u ∷ us) = completed carry u ++ withCarry (carried u) us
+
+low-not-high : (u : ℕ) → isLow u ≡ true → isHigh u ≡ false
+low-not-high u e =
+    let h = leb-true 0xdc00 u (both _ _ e .0) in
+    rw (le-leb 0xd800 u (omega arith), lt-leb u 0xdbff (omega arith))
+
+-- what is meant by a carry: the unit that was carried over stands before the others
+record Meant (us : List ℕ) : Type 0 where
+  without : withCarry none us ≡ characters us
+  with-high : (h : ℕ) → isHigh h ≡ true → withCarry (some h) us ≡ characters (h ∷ us)
+
+meant-next : (u : ℕ) (us : List ℕ) → Meant us → Meant (u ∷ us)
+unfolding withCarry
+meant-next u us m = record { without = alone; with-high = λ h high. after h high (isLow u) refl }
+  where
+    alone : withCarry none (u ∷ us) ≡ characters (u ∷ us)
+    alone = go (isHigh u) refl
+      where
+        go : (t : Bool) → isHigh u ≡ t → withCarry none (u ∷ us) ≡ characters (u ∷ us)
+        go true e = rw e (m .with-high u e)
+        go false e = rw e (ap (u ∷_) (m .without) ∙ sym (one-unit u us e))
+
+    after : (h : ℕ) → isHigh h ≡ true → (t : Bool) → isLow u ≡ t → withCarry (some h) (u ∷ us) ≡ characters (h ∷ u ∷ us)
+    after h high true e = rw (e, low-not-high u e) (ap (ofPair h u ∷_) (m .without) ∙ sym (a-pair h u us high e))
+    after h high false e = rw e (ap (h ∷_) alone ∙ sym (high-alone h u us e))
+
+meant : (us : List ℕ) → Meant us
+unfolding withCarry characters
+meant [] = record { without = refl; with-high = λ h high. refl }
+meant (u ∷ us) = meant-next u us (meant us)
+
+-- one unit at a time, the characters are those of the rule
+pub with-carry : (us : List ℕ) → characters us ≡ withCarry none us
+with-carry us = sym (meant us .without)
+
+-- what is carried over, from the code's number
 abbrev pub carryOf : ℕ → Option ℕ
 carryOf k = if eqb k 0 then none else some (0xd800 + (k - 1))
 
@@ -44,11 +106,11 @@ carried-over u k h g e =
 
 -- the text of the units from here on
 unfoldable pub textFrom : ℕ → List ℕ → Text
-textFrom k us = allShown (characters (carryOf k) us)
+textFrom k us = allShown (withCarry (carryOf k) us)
 
 pub text-start : (us : List ℕ) → stringText us ≡ textFrom 0 us
 unfolding stringText textFrom
-text-start us = refl
+text-start us = ap allShown (with-carry us)
 
 pub shown-append : (a b : List ℕ) → allShown (a ++ b) ≡ allShown a ++ allShown b
 unfolding allShown
@@ -60,11 +122,11 @@ unfolding allShown
 shown-one c = append-nil (shown c)
 
 pub text-unit : (k k′ u : ℕ) (us : List ℕ) → carryOf k′ ≡ carried u → textFrom k (u ∷ us) ≡ allShown (completed (carryOf k) u) ++ textFrom k′ us
-unfolding textFrom characters
-text-unit k k′ u us e = shown-append (completed (carryOf k) u) (characters (carried u) us) ∙ rw e
+unfolding textFrom withCarry
+text-unit k k′ u us e = shown-append (completed (carryOf k) u) (withCarry (carried u) us) ∙ rw e
 
 pub text-end : (k : ℕ) → textFrom k [] ≡ allShown (leftOver (carryOf k))
-unfolding textFrom characters
+unfolding textFrom withCarry
 text-end k = refl
 
 -- the unit at i, and those after it; fewer than two bytes are no unit

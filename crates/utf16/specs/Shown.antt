@@ -9,9 +9,9 @@ use lib.Dec.{eqb, leb}
 use lib.ListN.{getD}
 use Rattle.laws.specs.Tables.{tabled, tabled-at}
 use Rattle.rules.specs.Bytes.{if_then_else_}
-use Rattle.rules.specs.Strings.{isXml, utf8, escapes, carried, shown, allShown, completed}
+use Rattle.rules.specs.Strings.{isXml, utf8, escapes, shown, allShown}
 use Rattle.laws.specs.Tests.{both}
-use Rattle.utf16.specs.Carry.{carryOf, carried-low, shown-one}
+use Rattle.utf16.specs.Carry.{carried, completed, carryOf, carried-low, shown-one}
 
 -- the unit, with nothing carried over, is written as itself, and carries nothing over
 pub record Plainly (carry u : ℕ) : Type 0 where

@@ -7,8 +7,8 @@ ghost use lib.ListN.{length, getD};
 ghost use Rattle.output.specs.Output.{Wrote};
 ghost use Rattle.rules.specs.Bytes.{if_then_else_};
 ghost use Rattle.rules.specs.Names.{units};
-ghost use Rattle.rules.specs.Strings.{unlessHigh, completed, leftOver, utf8, isXml, shown, allShown, stringText};
-ghost use Rattle.utf16.specs.Carry.{carryOf, Carried};
+ghost use Rattle.rules.specs.Strings.{utf8, isXml, shown, allShown, stringText};
+ghost use Rattle.utf16.specs.Carry.{unlessHigh, completed, leftOver, carryOf, Carried};
 ghost use Rattle.utf16.specs.Shown.{PlainlyIf, plainTable};
 
 fn wide(b: u8) -> u32

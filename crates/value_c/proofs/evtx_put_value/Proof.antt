@@ -2,7 +2,7 @@
 use mathlib.Core.Path.{_∙_, sym, ap}
 use denote.Ref.{now}
 use Rattle.rules.specs.Values.{valueText}
-use Rattle.value.specs.Value.{numberIn}
+use Rattle.value.specs.Value.{putMeaning}
 use Rattle.value_c.specs.Call.{empty, told-refused, told-long, told-fits}
 use borrow.Author.Needs.{needs}
 use Rattle.value_c.proofs.evtx_put_value.Statement.{statement}
@@ -36,13 +36,13 @@ same-length : tie.Need-same-length
 same-length c = search needs
 
 returns : tie.Need-returns
-returns c = told-fits (valueText (c .before .before .before .before .before .before .before .before .before .before .before .before .before .before .args .kind) (now (c .before .before .before .before .before .before .before .before .before .before .before .before .before .before .args .src))) (now (c .before .before .before .before .before .before .before .before .before .before .before .before .before .before .args .out)) _ _ _ (sym (c .before .before .before .before .before .before .at .given .1) ∙ c .before .before .before .before .before .before .before .before .before .before .put-value .ensures .answer) (search needs) (search needs) (rw (empty (c .before .before .before .before .before .before .before .before .before .before .put-value .last .0) (c .before .before .before .before .before .before .before .before .before .before .put-value .kept .0)) at (c .before .before .put-value2 .ensures))
+returns c = told-fits (valueText (c .before .before .before .before .before .before .before .before .before .before .before .before .before .before .args .kind) (now (c .before .before .before .before .before .before .before .before .before .before .before .before .before .before .args .src))) (now (c .before .before .before .before .before .before .before .before .before .before .before .before .before .before .args .out)) _ _ _ (sym (ap putMeaning (c .before .before .before .before .before .before .at .given .1)) ∙ c .before .before .before .before .before .before .before .before .before .before .put-value .ensures .meaning) (search needs) (search needs) (rw (empty (c .before .before .before .before .before .before .before .before .before .before .put-value .last .0) (c .before .before .before .before .before .before .before .before .before .before .put-value .kept .0)) at (c .before .before .put-value2 .ensures))
 
 same-length-2 : tie.Need-same-length-2
 same-length-2 c = search needs
 
 returns-2 : tie.Need-returns-2
-returns-2 c = rw (empty (c .before .before .before .before .before .before .put-value .last .0) (c .before .before .before .before .before .before .put-value .kept .0)) (told-long (valueText (c .before .before .before .before .before .before .before .before .before .before .args .kind) (now (c .before .before .before .before .before .before .before .before .before .before .args .src))) (now (c .before .before .before .before .before .before .before .before .before .before .args .out)) _ (sym (c .before .before .at .given .1) ∙ c .before .before .before .before .before .before .put-value .ensures .answer) (search needs))
+returns-2 c = rw (empty (c .before .before .before .before .before .before .put-value .last .0) (c .before .before .before .before .before .before .put-value .kept .0)) (told-long (valueText (c .before .before .before .before .before .before .before .before .before .before .args .kind) (now (c .before .before .before .before .before .before .before .before .before .before .args .src))) (now (c .before .before .before .before .before .before .before .before .before .before .args .out)) _ (sym (ap putMeaning (c .before .before .at .given .1)) ∙ c .before .before .before .before .before .before .put-value .ensures .meaning) (search needs))
 
 same-length-3 : tie.Need-same-length-3
 same-length-3 c = search needs
@@ -50,7 +50,7 @@ same-length-3 c = search needs
 returns-3 : tie.Need-returns-3
 returns-3 c =
     rw (empty (c .before .before .before .before .put-value .last .0) (c .before .before .before .before .put-value .kept .0))
-    (told-refused (valueText (c .before .before .before .before .before .before .before .before .args .kind) (now (c .before .before .before .before .before .before .before .before .args .src))) (now (c .before .before .before .before .before .before .before .before .args .out)) (c .before .before .before .before .put-value .result) (c .before .before .before .before .put-value .ensures .answer) (ap numberIn (c .enum-told .given .1)))
+    (told-refused (valueText (c .before .before .before .before .before .before .before .before .args .kind) (now (c .before .before .before .before .before .before .before .before .args .src))) (now (c .before .before .before .before .before .before .before .before .args .out)) _ (c .before .before .before .before .put-value .ensures .meaning) (ap putMeaning (c .enum-told .given .1)))
 
 same-length-4 : tie.Need-same-length-4
 same-length-4 c = search needs
@@ -58,7 +58,7 @@ same-length-4 c = search needs
 returns-4 : tie.Need-returns-4
 returns-4 c =
     rw (empty (c .before .before .before .before .put-value .last .0) (c .before .before .before .before .put-value .kept .0))
-    (told-refused (valueText (c .before .before .before .before .before .before .before .before .args .kind) (now (c .before .before .before .before .before .before .before .before .args .src))) (now (c .before .before .before .before .before .before .before .before .args .out)) (c .before .before .before .before .put-value .result) (c .before .before .before .before .put-value .ensures .answer) (ap numberIn (c .enum-told2 .given .1)))
+    (told-refused (valueText (c .before .before .before .before .before .before .before .before .args .kind) (now (c .before .before .before .before .before .before .before .before .args .src))) (now (c .before .before .before .before .before .before .before .before .args .out)) _ (c .before .before .before .before .put-value .ensures .meaning) (ap putMeaning (c .enum-told2 .given .1)))
 
 same-length-5 : tie.Need-same-length-5
 same-length-5 c = search needs
@@ -66,7 +66,7 @@ same-length-5 c = search needs
 returns-5 : tie.Need-returns-5
 returns-5 c =
     rw (empty (c .before .before .before .before .put-value .last .0) (c .before .before .before .before .put-value .kept .0))
-    (told-refused (valueText (c .before .before .before .before .before .before .before .before .args .kind) (now (c .before .before .before .before .before .before .before .before .args .src))) (now (c .before .before .before .before .before .before .before .before .args .out)) (c .before .before .before .before .put-value .result) (c .before .before .before .before .put-value .ensures .answer) (ap numberIn (c .enum-told3 .given .1)))
+    (told-refused (valueText (c .before .before .before .before .before .before .before .before .args .kind) (now (c .before .before .before .before .before .before .before .before .args .src))) (now (c .before .before .before .before .before .before .before .before .args .out)) _ (c .before .before .before .before .put-value .ensures .meaning) (ap putMeaning (c .enum-told3 .given .1)))
 
 pub evtx-put-value-spec : {M : Type 1} → statement M
 evtx-put-value-spec =

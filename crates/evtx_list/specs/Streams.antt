@@ -1,0 +1,49 @@
+-- What the program asks of the operating system, and the checksums of what goes through its streams.
+--     Event, Served, writtenBy : a read or a write; that the operating system serves a file; what was written
+--     after : the streams after some events
+use mathlib.Core.Path.{_≡_}
+use mathlib.Core.Bool.{Bool, true}
+use mathlib.Core.List.{List, [], _∷_, _++_}
+use Prim.Native.Nat.{ℕ}
+use lib.ListN.{take, drop, replicate}
+use Rattle.rules.specs.Bytes.{Text}
+use Rattle.evtx_list.specs.Sums.{summedAt}
+
+-- What is asked of the operating system: a read with room for n bytes, with the bytes that were taken from it; and a write, with the bytes
+-- that were handed to it and whether it was done.
+pub data Event : Type 0 where
+  read : ℕ → List ℕ → Event
+  write : List ℕ → Bool → Event
+
+-- Every read gives the next bytes of the file, as many as it has room for or all that are left; every write is done.
+abbrev pub Served : List ℕ → List Event → Type 0
+Served file [] = Unit {0}
+Served file (read n bytes ∷ es) = (bytes ≡ take n file) × Served (drop n file) es
+Served file (write bytes done ∷ es) = (done ≡ true) × Served file es
+
+-- what was written
+abbrev pub writtenBy : List Event → Text
+writtenBy [] = []
+writtenBy (read n bytes ∷ es) = writtenBy es
+writtenBy (write bytes done ∷ es) = bytes ++ writtenBy es
+
+-- The numbers that a program keeps of its streams: two sums of all bytes that were taken from reads, and two of all that were handed to writes.
+abbrev pub Streams : Type 0
+Streams = List ℕ
+
+-- nothing has been read or written
+abbrev pub nothing : Streams
+nothing = replicate 4 0
+
+-- these bytes more were taken from a read, or handed to a write
+abbrev pub afterRead : Streams → List ℕ → Streams
+afterRead s bytes = summedAt s 0 bytes
+
+abbrev pub afterWrite : Streams → List ℕ → Streams
+afterWrite s bytes = summedAt s 2 bytes
+
+-- the streams after these events
+abbrev pub after : Streams → List Event → Streams
+after s [] = s
+after s (read n bytes ∷ es) = after (afterRead s bytes) es
+after s (write bytes done ∷ es) = after (afterWrite s bytes) es
