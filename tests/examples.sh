@@ -91,7 +91,7 @@ zeros() {
     head -c "$1" /dev/zero
 }
 
-# The record of 110 bytes that document 01 gives as its first example; as there, its text is right at offset 512 of a chunk only.
+# The record of 110 bytes that docs/RULES.md has as its example; as there, its text is right at offset 512 of a chunk only.
 example_record() {
     printf '\x2a\x2a\0\0\x6e\0\0\0\x01\0\0\0\0\0\0\0' && zeros 8
     printf '\x0f\x01\x01\0\x0c\x01\0\0\0\0\x26\x02\0\0' && zeros 20
@@ -104,7 +104,7 @@ small_record() {
     printf '\x2a\x2a\0\0\x1c\0\0\0\x02\0\0\0\0\0\0\0' && zeros 8 && printf '\x1c\0\0\0'
 }
 
-# Makes headers and checksums of a log of one chunk sound, as document 01 has them, with the free space from byte 622 of the chunk on.
+# Makes headers and checksums of a log of one chunk sound, by the rules of docs/RULES.md, with the free space from byte 622 of the chunk on.
 make_sound() {
     python3 - "$1" <<'END'
 import struct, sys, zlib

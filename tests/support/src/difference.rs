@@ -2,6 +2,9 @@
 
 use std::path::Path;
 
+/// How much of a line a report shows.
+const SHOWN: usize = 300;
+
 pub struct Difference {
     pub call: &'static str,
     pub asked: String,
@@ -29,4 +32,30 @@ pub fn report(difference: &Difference, origin: &Origin, path: &Path) {
         Ok(()) => println!("input: {}", path.display()),
         Err(error) => println!("input not written to {}: {error}", path.display()),
     }
+}
+
+/// Where two listings begin to differ, with both lines from there on.
+pub fn first_difference(first: &[u8], other: &[u8], whose: &str) -> Option<String> {
+    if first == other {
+        return None;
+    }
+    let equal = first.iter().zip(other).take_while(|(one, two)| one == two).count();
+    let line = other[..equal].iter().filter(|byte| **byte == 10).count();
+    let shown = |lines: &[u8]| -> String {
+        let from = lines[..equal].iter().rposition(|byte| *byte == 10).map_or(0, |at| at + 1);
+        String::from_utf8_lossy(&lines[from..])
+            .lines()
+            .next()
+            .unwrap_or("")
+            .chars()
+            .take(SHOWN)
+            .collect()
+    };
+    let (mine, theirs) = (shown(first), shown(other));
+    Some(format!(
+        "byte {equal}, line {}, {} bytes and {} bytes\nfirst reader: {mine}\n{whose}: {theirs}",
+        line + 1,
+        first.len(),
+        other.len()
+    ))
 }

@@ -6,7 +6,7 @@ use second_reader::listing::listing;
 use std::io::Write;
 use std::path::Path;
 use std::process::{Command, Output, Stdio};
-use support::difference::{Difference, Outcome};
+use support::difference::{first_difference, Difference, Outcome};
 use support::samples::sample_path;
 use support::tally::Tally;
 
@@ -14,7 +14,6 @@ pub const HEADER_LINE: &str = "evtx_list, header";
 pub const CHUNK_LINE: &str = "evtx_list, chunk";
 pub const RECORD_LINE: &str = "evtx_list, record";
 const CALL: &str = "evtx_list";
-const SHOWN: usize = 300;
 
 /// Lists every file until one differs; with a seed, the files made of it.
 pub fn compare_all(
@@ -66,42 +65,21 @@ fn run(program: &Path, file: &File) -> Result<Vec<u8>, String> {
     if !output.status.success() {
         return Err(format!("the program ended with {}", output.status));
     }
+    if !output.stderr.is_empty() {
+        return Err(format!("standard error: {}", String::from_utf8_lossy(&output.stderr)));
+    }
     Ok(output.stdout)
 }
 
 fn through_pipe(command: &mut Command, bytes: &[u8], piece: usize) -> std::io::Result<Output> {
-    let mut child = command.stdin(Stdio::piped()).stdout(Stdio::piped()).spawn()?;
+    command.stdin(Stdio::piped()).stdout(Stdio::piped()).stderr(Stdio::piped());
+    let mut child = command.spawn()?;
     let mut input = child.stdin.take().expect("a pipe");
     std::thread::scope(|scope| {
         // A program that stops reading closes the pipe; its lines then tell.
         scope.spawn(move || bytes.chunks(piece).try_for_each(|piece| input.write_all(piece)));
         child.wait_with_output()
     })
-}
-
-fn first_difference(first: &[u8], other: &[u8], whose: &str) -> Option<String> {
-    if first == other {
-        return None;
-    }
-    let equal = first.iter().zip(other).take_while(|(one, two)| one == two).count();
-    let line = other[..equal].iter().filter(|byte| **byte == 10).count();
-    let shown = |lines: &[u8]| -> String {
-        let from = lines[..equal].iter().rposition(|byte| *byte == 10).map_or(0, |at| at + 1);
-        String::from_utf8_lossy(&lines[from..])
-            .lines()
-            .next()
-            .unwrap_or("")
-            .chars()
-            .take(SHOWN)
-            .collect()
-    };
-    let (mine, theirs) = (shown(first), shown(other));
-    Some(format!(
-        "byte {equal}, line {}, {} bytes and {} bytes\nfirst reader: {mine}\n{whose}: {theirs}",
-        line + 1,
-        first.len(),
-        other.len()
-    ))
 }
 
 /// Which kind of line it is, and the number it gives: 0 without a refusal.

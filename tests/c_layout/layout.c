@@ -1,0 +1,401 @@
+/* Holds the archive to include/evtx.h: where each field of each struct stands, that the library fills it there, and that every bit of a
+ * parameter counts. The contracts of the calls know neither, so that a field in another place or a parameter of 32 bits would be proved.
+ *
+ *     layout              makes every check; the status is 0 exactly if all held
+ *     layout --covered    writes the names of the structs, fields and calls that are checked; run.sh holds them to the header's
+ *
+ * Every value that is due was worked out by hand from document 01. A struct has a row in `structs` and one for each field in `fields`; a
+ * call has a row in `calls`, and the function named there tries it. */
+#define _DEFAULT_SOURCE
+#include <inttypes.h>
+#include <stdio.h>
+#include <stdlib.h>
+#include <string.h>
+#include <sys/mman.h>
+
+#include "evtx.h"
+
+#define BIT(b) ((uint64_t)1 << (b))
+
+static unsigned checks, failed;
+
+static void equal(const char *call, const char *what, const char *field, uint64_t is, uint64_t due)
+{
+    checks++;
+    if (is == due)
+        return;
+    failed++;
+    printf("FAILED %s, %s: %s is 0x%" PRIx64 ", due is 0x%" PRIx64 "\n", call, what, field, is, due);
+}
+
+/* The layout, by the rules of the C implementation for x86-64: a field stands at a multiple of its width. */
+
+#define STRUCT(type, size) { #type, sizeof(type), size }
+#define FIELD(type, field, offset, width) { #type, #field, offsetof(type, field), sizeof(((type *)0)->field), offset, width }
+
+static const struct {
+    const char *name;
+    size_t size, due;
+} structs[] = {
+    STRUCT(evtx_answer, 16),
+    STRUCT(evtx_found, 16),
+    STRUCT(evtx_stretch, 24),
+    STRUCT(evtx_fields, 24),
+    STRUCT(evtx_text, 16),
+};
+
+static const struct {
+    const char *type, *name;
+    size_t offset, width, offset_due, width_due;
+} fields[] = {
+    FIELD(evtx_answer, number, 0, 4),
+    FIELD(evtx_answer, length, 8, 8),
+    FIELD(evtx_found, number, 0, 4),
+    FIELD(evtx_found, offset, 8, 8),
+    FIELD(evtx_stretch, number, 0, 4),
+    FIELD(evtx_stretch, offset, 8, 8),
+    FIELD(evtx_stretch, length, 16, 8),
+    FIELD(evtx_fields, number, 0, 4),
+    FIELD(evtx_fields, record_number, 8, 8),
+    FIELD(evtx_fields, written_time, 16, 8),
+    FIELD(evtx_text, number, 0, 4),
+    FIELD(evtx_text, length, 8, 8),
+};
+
+#define COUNT(table) (sizeof(table) / sizeof(*(table)))
+
+static void layout(void)
+{
+    for (size_t i = 0; i < COUNT(structs); i++)
+        equal("layout", structs[i].name, "size", structs[i].size, structs[i].due);
+    for (size_t i = 0; i < COUNT(fields); i++) {
+        equal(fields[i].type, fields[i].name, "offset", fields[i].offset, fields[i].offset_due);
+        equal(fields[i].type, fields[i].name, "width", fields[i].width, fields[i].width_due);
+    }
+    equal("layout", "size_t", "size", sizeof(size_t), 8);
+    equal("layout", "a pointer", "size", sizeof(void *), 8);
+}
+
+/* What is lent. Each is the front of a range of addresses as long as the longest length that is tried; behind the front nothing may be
+ * touched, so that a call that goes by more than it needs ends the program. */
+
+#define CHUNK 65536u
+#define LONGEST_BIT 33
+#define KEPT 0xf9
+
+/* In the chunk: a record with a long text at 512, one with values in every byte of its fields, and the smallest there is. */
+#define FIRST 512u
+#define SECOND 0x3456u
+#define THIRD 0xbcdeu
+#define STRETCH_LENGTH 0x789au
+#define RECORD_NUMBER UINT64_C(0x1122334455667788)
+#define WRITTEN_TIME UINT64_C(0x99aabbccddeeff01)
+
+/* <P>, three times a binary value of 12,345 bytes as two digits each, and </P>: 3 + 3 * 24,690 + 4. It takes 17 bits. */
+#define VALUE 12345u
+#define TEXT 74077u
+
+/* In the loose bytes: two of the smallest records. The second's offset takes 21 bits, and the bytes end with it. */
+#define NEAR 3u
+#define FAR 0x123456u
+#define BYTES (FAR + 28)
+
+static uint8_t *chunk, *bytes, *out;
+static uint32_t *offsets;
+
+static void *reserve(size_t front, size_t whole)
+{
+    void *at = mmap(NULL, whole, PROT_NONE, MAP_PRIVATE | MAP_ANONYMOUS | MAP_NORESERVE, -1, 0);
+    if (at == MAP_FAILED || mprotect(at, front, PROT_READ | PROT_WRITE) != 0) {
+        perror("layout: no range of addresses");
+        exit(1);
+    }
+    return at;
+}
+
+static void put(uint8_t *at, uint64_t number, size_t width)
+{
+    for (size_t i = 0; i < width; i++)
+        at[i] = (uint8_t)(number >> 8 * i);
+}
+
+static void put_record(uint8_t *at, uint32_t size, uint64_t number, uint64_t time)
+{
+    put(at, 0x2a2a, 4);
+    put(at + 4, size, 4);
+    put(at + 8, number, 8);
+    put(at + 16, time, 8);
+    put(at + size - 4, size, 4);
+}
+
+/* Document 01's first example, but with three substitutions and a longer value: 42 bytes of data and 30 of the element for 34 and 22. */
+static void put_text_record(void)
+{
+    static const uint8_t xml[] = {
+        0x0f, 1, 1, 0, 0x0c, 1, 0, 0, 0, 0, 0x26, 2, 0, 0,
+        0, 0, 0, 0, 0, 0, 0, 0, 0, 0, 0, 0, 0, 0, 0, 0, 0, 0, 0, 0, 42, 0, 0, 0,
+        0x0f, 1, 1, 0, 1, 0xff, 0xff, 30, 0, 0, 0, 0x4d, 2, 0, 0, 0, 0, 0, 0, 0, 0, 1, 0, 'P', 0, 0, 0, 2,
+        0x0d, 0, 0, 0x0e, 0x0d, 0, 0, 0x0e, 0x0d, 0, 0, 0x0e, 4, 0,
+        1, 0, 0, 0, VALUE & 0xff, VALUE >> 8, 0x0e, 0,
+    };
+    memcpy(chunk + FIRST + 24, xml, sizeof xml);
+    memset(chunk + FIRST + 24 + sizeof xml, 0xab, VALUE);
+    put_record(chunk + FIRST, 24 + sizeof xml + VALUE + 4, 1, 0);
+}
+
+static void lend(void)
+{
+    chunk = reserve(CHUNK, CHUNK + BIT(LONGEST_BIT));
+    put_text_record();
+    put_record(chunk + SECOND, 24 + STRETCH_LENGTH + 4, RECORD_NUMBER, WRITTEN_TIME);
+    put_record(chunk + THIRD, 28, 2, 0);
+    bytes = reserve(BYTES, BYTES + BIT(LONGEST_BIT));
+    put_record(bytes + NEAR, 28, 3, 0);
+    put_record(bytes + FAR, 28, 4, 0);
+    out = reserve(2 * CHUNK, BIT(LONGEST_BIT));
+    offsets = reserve(CHUNK, sizeof(uint32_t) * BIT(LONGEST_BIT));
+}
+
+/* What a call answers, beside what is due. */
+
+static void answer(const char *call, const char *what, evtx_answer is, uint32_t number, uint64_t length)
+{
+    equal(call, what, "number", is.number, number);
+    equal(call, what, "length", is.length, length);
+}
+
+static void found(const char *call, const char *what, evtx_found is, uint32_t number, uint64_t offset)
+{
+    equal(call, what, "number", is.number, number);
+    equal(call, what, "offset", is.offset, offset);
+}
+
+static void stretch(const char *call, const char *what, evtx_stretch is, uint32_t number, uint64_t offset, uint64_t length)
+{
+    equal(call, what, "number", is.number, number);
+    equal(call, what, "offset", is.offset, offset);
+    equal(call, what, "length", is.length, length);
+}
+
+static void record(const char *call, const char *what, evtx_fields is, uint32_t number, uint64_t record_number, uint64_t time)
+{
+    equal(call, what, "number", is.number, number);
+    equal(call, what, "record_number", is.record_number, record_number);
+    equal(call, what, "written_time", is.written_time, time);
+}
+
+static void text(const char *call, const char *what, evtx_text is, uint32_t number, uint64_t length)
+{
+    equal(call, what, "number", is.number, number);
+    equal(call, what, "length", is.length, length);
+}
+
+/* A struct of more than 16 bytes is written to where a first parameter points that C does not show (System V ABI). So it can be seen which
+ * bytes the library writes: all of each field, and none outside the struct. Here both fields after the number have 8 bytes. */
+typedef void *to_memory(void *answer, const uint8_t *chunk, size_t chunk_len, uint64_t offset);
+
+static void image(const char *call, to_memory *made, uint64_t first, uint64_t second)
+{
+    uint8_t is[40], due[40];
+    memset(is, KEPT, sizeof is);
+    memset(due, KEPT, sizeof due);
+    made(is + 8, chunk, CHUNK, SECOND);
+    put(due + 8, 0, 4);
+    put(due + 16, first, 8);
+    put(due + 24, second, 8);
+    for (size_t i = 0; i < sizeof is; i++) {
+        char where[32];
+        snprintf(where, sizeof where, "byte %d of the struct", (int)i - 8);
+        /* Nothing is said of the bytes between the number and the next field. */
+        if (i < 12 || i >= 16)
+            equal(call, "in memory", where, is[i], due[i]);
+    }
+}
+
+/* The calls. The pointer at the front of each function has the types of the parameters by hand; the compiler refuses the header if it has
+ * others. */
+
+static void check_file_header(const char *name)
+{
+    evtx_answer (*call)(const uint8_t *, size_t) = evtx_check_file_header;
+    uint8_t *header = reserve(4096, 4096 + BIT(LONGEST_BIT));
+    answer(name, "zeros", call(header, 4096), 2, 0);
+    memcpy(header, "ElfFile", 8);
+    answer(name, "the magic", call(header, 4096), 3, 0);
+    put(header + 0x24, 0x00030001, 4);
+    answer(name, "magic and version", call(header, 4096), 4, 0);
+    for (unsigned b = 0; b <= LONGEST_BIT; b++)
+        answer(name, "a length with one bit more", call(header, 4096 + BIT(b)), 1, 0);
+}
+
+static void check_chunk(const char *name)
+{
+    evtx_answer (*call)(const uint8_t *, size_t) = evtx_check_chunk;
+    uint8_t *empty = reserve(CHUNK, CHUNK + BIT(LONGEST_BIT));
+    answer(name, "zeros", call(empty, CHUNK), 2, 0);
+    memcpy(empty, "ElfChnk", 8);
+    answer(name, "the magic", call(empty, CHUNK), 4, 0);
+    for (unsigned b = 0; b <= LONGEST_BIT; b++)
+        answer(name, "a length with one bit more", call(empty, CHUNK + BIT(b)), 1, 0);
+}
+
+/* A search with lists of any length: as many entries as there are records, one less, and then each bit of the room. The list is looked at
+ * as bytes, four for each entry. */
+static void search(const char *name, evtx_answer (*call)(const uint8_t *, size_t, uint32_t *, size_t), const uint8_t *in, size_t length,
+                   const uint32_t *due, size_t count)
+{
+    uint8_t list[32];
+    memset(list, KEPT, sizeof list);
+    for (size_t i = 0; i < count; i++)
+        put(list + 4 * i, due[i], 4);
+    memset(offsets, KEPT, sizeof list);
+    answer(name, "one entry too few", call(in, length, offsets, count - 1), 13, 0);
+    equal(name, "one entry too few", "first entry", offsets[0], 0xf9f9f9f9);
+    answer(name, "just enough entries", call(in, length, offsets, count), 0, count);
+    equal(name, "just enough entries", "the list equals that due", memcmp(offsets, list, sizeof list) == 0, 1);
+    for (unsigned b = 2; b <= LONGEST_BIT; b++) {
+        memset(offsets, KEPT, sizeof list);
+        answer(name, "a room of one bit", call(in, length, offsets, BIT(b)), 0, count);
+        equal(name, "a room of one bit", "the list equals that due", memcmp(offsets, list, sizeof list) == 0, 1);
+    }
+}
+
+static void search_chunk(const char *name)
+{
+    evtx_answer (*call)(const uint8_t *, size_t, uint32_t *, size_t) = evtx_search_chunk;
+    static const uint32_t due[] = { FIRST, SECOND, THIRD };
+    search(name, call, chunk, CHUNK, due, COUNT(due));
+    for (unsigned b = 0; b <= LONGEST_BIT; b++)
+        answer(name, "a length with one bit more", call(chunk, CHUNK + BIT(b), offsets, 8), 1, 0);
+}
+
+static void search_bytes(const char *name)
+{
+    evtx_answer (*call)(const uint8_t *, size_t, uint32_t *, size_t) = evtx_search_bytes;
+    static const uint32_t due[] = { NEAR, FAR };
+    search(name, call, bytes, BYTES, due, COUNT(due));
+    answer(name, "the last byte is missing", call(bytes, BYTES - 1, offsets, 8), 0, 1);
+    for (unsigned b = 24; b <= LONGEST_BIT; b++)
+        answer(name, "a length with one bit more", call(bytes, BYTES + BIT(b), offsets, 8), 1, 0);
+}
+
+static void next_in_chunk(const char *name)
+{
+    evtx_found (*call)(const uint8_t *, size_t, uint64_t) = evtx_next_in_chunk;
+    found(name, "from 0", call(chunk, CHUNK, 0), 0, FIRST);
+    found(name, "behind the first", call(chunk, CHUNK, FIRST + 1), 0, SECOND);
+    found(name, "behind the second", call(chunk, CHUNK, SECOND + 1), 0, THIRD);
+    found(name, "behind the last", call(chunk, CHUNK, THIRD + 1), 7, 0);
+    for (unsigned b = 16; b < 64; b++) {
+        found(name, "from one bit", call(chunk, CHUNK, BIT(b)), 7, 0);
+        found(name, "from a record with one bit more", call(chunk, CHUNK, FIRST + BIT(b)), 7, 0);
+    }
+    for (unsigned b = 0; b <= LONGEST_BIT; b++)
+        found(name, "a length with one bit more", call(chunk, CHUNK + BIT(b), 0), 1, 0);
+}
+
+static void next_in_bytes(const char *name)
+{
+    evtx_found (*call)(const uint8_t *, size_t, uint64_t) = evtx_next_in_bytes;
+    found(name, "from 0", call(bytes, BYTES, 0), 0, NEAR);
+    found(name, "behind the first", call(bytes, BYTES, NEAR + 1), 0, FAR);
+    found(name, "behind the last", call(bytes, BYTES, FAR + 1), 7, 0);
+    found(name, "the last byte is missing", call(bytes, BYTES - 1, NEAR + 1), 7, 0);
+    for (unsigned b = 21; b < 64; b++) {
+        found(name, "from one bit", call(bytes, BYTES, BIT(b)), 7, 0);
+        found(name, "from a record with one bit more", call(bytes, BYTES, NEAR + BIT(b)), 7, 0);
+    }
+    for (unsigned b = 24; b <= LONGEST_BIT; b++)
+        found(name, "a length with one bit more", call(bytes, BYTES + BIT(b), 0), 1, 0);
+}
+
+static void record_stretch(const char *name)
+{
+    evtx_stretch (*call)(const uint8_t *, size_t, uint64_t) = evtx_record_stretch;
+    stretch(name, "a record", call(chunk, CHUNK, SECOND), 0, SECOND + 24, STRETCH_LENGTH);
+    stretch(name, "the smallest record", call(chunk, CHUNK, THIRD), 0, THIRD + 24, 0);
+    stretch(name, "no record", call(chunk, CHUNK, SECOND + 1), 7, 0, 0);
+    image(name, (to_memory *)(void (*)(void))call, SECOND + 24, STRETCH_LENGTH);
+    for (unsigned b = 16; b < 64; b++)
+        stretch(name, "an offset with one bit more", call(chunk, CHUNK, SECOND + BIT(b)), 7, 0, 0);
+    for (unsigned b = 0; b <= LONGEST_BIT; b++)
+        stretch(name, "a length with one bit more", call(chunk, CHUNK + BIT(b), SECOND), 1, 0, 0);
+}
+
+static void record_fields(const char *name)
+{
+    evtx_fields (*call)(const uint8_t *, size_t, uint64_t) = evtx_record_fields;
+    record(name, "a record", call(chunk, CHUNK, SECOND), 0, RECORD_NUMBER, WRITTEN_TIME);
+    record(name, "no record", call(chunk, CHUNK, SECOND + 1), 7, 0, 0);
+    image(name, (to_memory *)(void (*)(void))call, RECORD_NUMBER, WRITTEN_TIME);
+    for (unsigned b = 16; b < 64; b++)
+        record(name, "an offset with one bit more", call(chunk, CHUNK, SECOND + BIT(b)), 7, 0, 0);
+    for (unsigned b = 0; b <= LONGEST_BIT; b++)
+        record(name, "a length with one bit more", call(chunk, CHUNK + BIT(b), SECOND), 1, 0, 0);
+}
+
+static void record_text(const char *name)
+{
+    evtx_text (*call)(const uint8_t *, size_t, uint64_t, uint8_t *, size_t) = evtx_record_text;
+    static uint8_t due[TEXT + 1];
+    for (size_t i = 0; i < sizeof due; i++)
+        due[i] = "BA"[i % 2];
+    memcpy(due, "<P>", 3);
+    memcpy(due + TEXT - 4, "</P>", 4);
+    due[TEXT] = KEPT;
+    memset(out, KEPT, sizeof due);
+    text(name, "one byte too few", call(chunk, CHUNK, FIRST, out, TEXT - 1), 13, 0);
+    equal(name, "one byte too few", "first byte", out[0], KEPT);
+    text(name, "just enough room", call(chunk, CHUNK, FIRST, out, TEXT), 0, TEXT);
+    equal(name, "just enough room", "the text equals that due", memcmp(out, due, sizeof due) == 0, 1);
+    for (unsigned b = 17; b <= LONGEST_BIT; b++) {
+        memset(out, KEPT, sizeof due);
+        text(name, "a room of one bit", call(chunk, CHUNK, FIRST, out, BIT(b)), 0, TEXT);
+        equal(name, "a room of one bit", "the text equals that due", memcmp(out, due, sizeof due) == 0, 1);
+    }
+    text(name, "no binary XML", call(chunk, CHUNK, THIRD, out, 8), 8, 0);
+    for (unsigned b = 16; b < 64; b++)
+        text(name, "an offset with one bit more", call(chunk, CHUNK, FIRST + BIT(b), out, TEXT), 7, 0);
+    for (unsigned b = 0; b <= LONGEST_BIT; b++)
+        text(name, "a length with one bit more", call(chunk, CHUNK + BIT(b), FIRST, out, TEXT), 1, 0);
+}
+
+static const struct {
+    const char *name;
+    void (*tries)(const char *name);
+} calls[] = {
+    { "evtx_check_file_header", check_file_header },
+    { "evtx_check_chunk", check_chunk },
+    { "evtx_search_chunk", search_chunk },
+    { "evtx_search_bytes", search_bytes },
+    { "evtx_next_in_chunk", next_in_chunk },
+    { "evtx_next_in_bytes", next_in_bytes },
+    { "evtx_record_stretch", record_stretch },
+    { "evtx_record_fields", record_fields },
+    { "evtx_record_text", record_text },
+};
+
+static int covered(void)
+{
+    for (size_t i = 0; i < COUNT(structs); i++)
+        printf("struct %s\n", structs[i].name);
+    for (size_t i = 0; i < COUNT(fields); i++)
+        printf("field %s.%s\n", fields[i].type, fields[i].name);
+    for (size_t i = 0; i < COUNT(calls); i++)
+        printf("call %s\n", calls[i].name);
+    return 0;
+}
+
+int main(int count, char **arguments)
+{
+    if (count == 2 && strcmp(arguments[1], "--covered") == 0)
+        return covered();
+    /* So that a line stands even if a call ends the program. */
+    setvbuf(stdout, NULL, _IOLBF, BUFSIZ);
+    layout();
+    lend();
+    for (size_t i = 0; i < COUNT(calls); i++)
+        calls[i].tries(calls[i].name);
+    printf("layout of the C interface: %u checks, %u failed\n", checks, failed);
+    return failed != 0;
+}
