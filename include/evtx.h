@@ -21,7 +21,9 @@
  * of one call must not overlap. A pointer must not be null, also where its length is 0: then it may point to anything, and nothing is
  * read or written. An input may have any length and any content.
  *
- * Offsets are counted from the first byte of the chunk, or of the bytes, that the call is lent. */
+ * Offsets are counted from the first byte of the chunk, or of the bytes, that the call is lent.
+ *
+ * The rules in full, with every test in its order, every limit and the text of every type of value, are in docs/RULES.md of the sources. */
 #ifndef EVTX_H
 #define EVTX_H
 
