@@ -6,7 +6,7 @@ use mathlib.Core.Bool.{Bool, true}
 use mathlib.Core.List.{List, [], _∷_, _++_}
 use Prim.Native.Nat.{ℕ}
 use lib.ListN.{take, drop, replicate}
-use Rattle.rules.specs.Bytes.{Text}
+use Rattle.rules.specs.Bytes.{if_then_else_, Text}
 use Rattle.evtx_list.specs.Sums.{summedAt}
 
 -- What is asked of the operating system: a read with room for n bytes, with the bytes that were taken from it; and a write, with the bytes
@@ -27,7 +27,8 @@ writtenBy [] = []
 writtenBy (read n bytes ∷ es) = writtenBy es
 writtenBy (write bytes done ∷ es) = bytes ++ writtenBy es
 
--- The numbers that a program keeps of its streams: two sums of all bytes that were taken from reads, and two of all that were handed to writes.
+-- The numbers that a program keeps of its streams: two sums of all bytes that were taken from reads, each with the room it had, and two of all
+-- that were handed to writes, each with what it answered.
 abbrev pub Streams : Type 0
 Streams = List ℕ
 
@@ -35,15 +36,19 @@ Streams = List ℕ
 abbrev pub nothing : Streams
 nothing = replicate 4 0
 
--- these bytes more were taken from a read, or handed to a write
-abbrev pub afterRead : Streams → List ℕ → Streams
-afterRead s bytes = summedAt s 0 bytes
+-- what a write answered, as a number
+abbrev pub mark : Bool → ℕ
+mark done = if done then 1 else 0
 
-abbrev pub afterWrite : Streams → List ℕ → Streams
-afterWrite s bytes = summedAt s 2 bytes
+-- these bytes more were taken from a read with room for n, or handed to a write
+abbrev pub afterRead : Streams → ℕ → List ℕ → Streams
+afterRead s n bytes = summedAt s 0 bytes n
+
+abbrev pub afterWrite : Streams → List ℕ → Bool → Streams
+afterWrite s bytes done = summedAt s 2 bytes (mark done)
 
 -- the streams after these events
 abbrev pub after : Streams → List Event → Streams
 after s [] = s
-after s (read n bytes ∷ es) = after (afterRead s bytes) es
-after s (write bytes done ∷ es) = after (afterWrite s bytes) es
+after s (read n bytes ∷ es) = after (afterRead s n bytes) es
+after s (write bytes done ∷ es) = after (afterWrite s bytes done) es

@@ -34,14 +34,14 @@ fn over(sums: Sums, bytes: &[u8]) -> Sums
     with(with(s, octets::eight(bytes, i)), bytes.len() as u64)
 }
 
-// Takes some more bytes into the two sums that stand at a place.
-pub(crate) fn add(numbers: &mut [u64], at: usize, bytes: &[u8])
+// Takes some more bytes, and a number, into the two sums that stand at a place.
+pub(crate) fn add(numbers: &mut [u64], at: usize, bytes: &[u8], last: u64)
     requires { ⌜ at + 1 < length (now numbers) ⌝ }
-    ensures { λ _. ⌜ now (numbers .exit) ≡ summedAt (now (numbers .entry)) at (now (bytes .entry)) ⌝ }
+    ensures { λ _. ⌜ now (numbers .exit) ≡ summedAt (now (numbers .entry)) at (now (bytes .entry)) last ⌝ }
 {
     let first = numbers[at];
     let second = numbers[at + 1];
-    let after = over(Sums { first, second }, bytes);
+    let after = with(over(Sums { first, second }, bytes), last);
     numbers[at] = after.first;
     numbers[at + 1] = after.second;
 }
