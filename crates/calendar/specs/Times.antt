@@ -1,12 +1,12 @@
 -- What the calls on times answer and leave, against rules.Dates.
 --     timeMeaning : document 01's number and value for each answer
 --     PutTime o out at out′ r : the text of a time, or none, gives the answer r and the memory out′
-use mathlib.Core.Path.{_≡_, refl, ap}
+use mathlib.Core.Path.{_≡_}
 use mathlib.Core.List.{List}
 use mathlib.Core.Option.{Option, none, some}
 use Prim.Native.Nat.{ℕ}
 use lib.ListN.{length}
-use Rattle.output.specs.Output.{Wrote, emit, adv}
+use Rattle.output.specs.Output.{emit, adv}
 use Rattle.rules.specs.Bytes.{Text}
 use Rattle.rules.specs.Answers.{Outcome, value, refusal, wrongValue}
 use Rattle.rules.specs.Dates as Dates
@@ -38,9 +38,3 @@ pub record PutTime (o : Option Text) (out : List ℕ) (at : ℕ) (out′ : List 
   pub meaning : timeMeaning r ≡ placeAfter (length out) at o
   -- the memory holds the text, or is as it was
   pub bytes : out′ ≡ leaves out at o
-
-pub put-done : {out out′ : List ℕ} {at at′ : ℕ} {t : Text} → Wrote out at t out′ at′ → PutTime (some t) out at out′ (Done at′)
-put-done w = record { meaning = ap value (w .count); bytes = w .bytes }
-
-pub put-wrong : {out : List ℕ} {at : ℕ} → PutTime none out at out Wrong
-put-wrong = record { meaning = refl; bytes = refl }

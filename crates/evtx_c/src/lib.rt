@@ -48,7 +48,7 @@ fn answer_of(number: u32) -> EvtxAnswer
 }
 
 // The answer of a search.
-fn counted(found: record::Answer) -> EvtxAnswer
+fn counted(found: record::SearchAnswer) -> EvtxAnswer
     ensures { λ r. ⌜ (r .number ≡ found .number) × (r .length ≡ found .count) ⌝ }
 {
     EvtxAnswer {
@@ -89,7 +89,8 @@ pub extern "C" fn evtx_check_chunk(chunk: &[u8]) -> EvtxAnswer
 // Lists the records of a chunk.
 #[no_mangle]
 pub extern "C" fn evtx_search_chunk(chunk: &[u8], offsets: &mut [u32]) -> EvtxAnswer
-    ensures { λ r. ⌜ Answered (searchChunk (now (chunk .entry)) (length (now (offsets .entry)))) (now (offsets .entry)) (now (offsets .exit)) (r .number) (r .length) ⌝ }
+    ensures { λ r. ⌜ Answered (searchChunk (now (chunk .entry)) (length (now (offsets .entry)))) (now (offsets .entry)) (now (offsets .exit)) (r .number)
+        (r .length) ⌝ }
 {
     counted(record::search_chunk(chunk, offsets))
 }
@@ -97,7 +98,8 @@ pub extern "C" fn evtx_search_chunk(chunk: &[u8], offsets: &mut [u32]) -> EvtxAn
 // Lists the records of loose bytes.
 #[no_mangle]
 pub extern "C" fn evtx_search_bytes(bytes: &[u8], offsets: &mut [u32]) -> EvtxAnswer
-    ensures { λ r. ⌜ Answered (searchBytes (now (bytes .entry)) (length (now (offsets .entry)))) (now (offsets .entry)) (now (offsets .exit)) (r .number) (r .length) ⌝ }
+    ensures { λ r. ⌜ Answered (searchBytes (now (bytes .entry)) (length (now (offsets .entry)))) (now (offsets .entry)) (now (offsets .exit)) (r .number)
+        (r .length) ⌝ }
 {
     counted(record::search_bytes(bytes, offsets))
 }
@@ -160,7 +162,7 @@ pub extern "C" fn evtx_record_fields(chunk: &[u8], offset: u64) -> EvtxFields
 }
 
 // The answer about a text.
-fn told(text: evtx::Answer) -> EvtxText
+fn told(text: evtx::TextAnswer) -> EvtxText
     ensures { λ r. ⌜ (r .number ≡ text .number) × (r .length ≡ text .length) ⌝ }
 {
     EvtxText {

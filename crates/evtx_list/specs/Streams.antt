@@ -1,12 +1,11 @@
 -- What the program asks of the operating system, and the checksums of what goes through its streams.
---     Event, Served, writtenBy : a read or a write; that the operating system serves a file; what was written
+--     Event : a read or a write
 --     after : the streams after some events
-use mathlib.Core.Path.{_≡_}
-use mathlib.Core.Bool.{Bool, true}
-use mathlib.Core.List.{List, [], _∷_, _++_}
+use mathlib.Core.Bool.{Bool}
+use mathlib.Core.List.{List, [], _∷_}
 use Prim.Native.Nat.{ℕ}
-use lib.ListN.{take, drop, replicate}
-use Rattle.rules.specs.Bytes.{if_then_else_, Text}
+use lib.ListN.{replicate}
+use Rattle.rules.specs.Bytes.{if_then_else_}
 use Rattle.evtx_list.specs.Sums.{summedAt}
 
 -- What is asked of the operating system: a read with room for n bytes, with the bytes that were taken from it; and a write, with the bytes
@@ -14,18 +13,6 @@ use Rattle.evtx_list.specs.Sums.{summedAt}
 pub data Event : Type 0 where
   read : ℕ → List ℕ → Event
   write : List ℕ → Bool → Event
-
--- Every read gives the next bytes of the file, as many as it has room for or all that are left; every write is done.
-abbrev pub Served : List ℕ → List Event → Type 0
-Served file [] = Unit {0}
-Served file (read n bytes ∷ es) = (bytes ≡ take n file) × Served (drop n file) es
-Served file (write bytes done ∷ es) = (done ≡ true) × Served file es
-
--- what was written
-abbrev pub writtenBy : List Event → Text
-writtenBy [] = []
-writtenBy (read n bytes ∷ es) = writtenBy es
-writtenBy (write bytes done ∷ es) = bytes ++ writtenBy es
 
 -- The numbers that a program keeps of its streams: two sums of all bytes that were taken from reads, each with the room it had, and two of all
 -- that were handed to writes, each with what it answered.

@@ -102,7 +102,8 @@ year-closed n = go (eqb (y % 4) 0) (eqb (y % 100) 0) (eqb (y % 400) 0) refl refl
     closed : (a b c l : Bool) → eqb (y % 4) 0 ≡ a → eqb (y % 100) 0 ≡ b → eqb (y % 400) 0 ≡ c → leap y ≡ l → bit l + bit b ≡ bit a + bit c
         → daysOfYear y + n / 4 + n / 400 + suc n / 100 ≡ 365 + suc n / 4 + suc n / 400 + n / 100
     closed a b c l ea eb ec el e =
-        sum-up (daysOfYear y) (n / 4) (n / 100) (n / 400) (suc n / 4) (suc n / 100) (suc n / 400) (bit a) (bit b) (bit c) (bit l) (year-days y l el) (by-4 n a ea) (by-100 n b eb) (by-400 n c ec) e
+        sum-up (daysOfYear y) (n / 4) (n / 100) (n / 400) (suc n / 4) (suc n / 100) (suc n / 400) (bit a) (bit b) (bit c) (bit l) (year-days y l el)
+        (by-4 n a ea) (by-100 n b eb) (by-400 n c ec) e
 
     go : (a b c : Bool) → eqb (y % 4) 0 ≡ a → eqb (y % 100) 0 ≡ b → eqb (y % 400) 0 ≡ c
         → daysOfYear y + n / 4 + n / 400 + suc n / 100 ≡ 365 + suc n / 4 + suc n / 400 + n / 100

@@ -59,11 +59,27 @@ one c t h = go (ltb c 0x80) (ltb c 0x800) (ltb c 0x1_0000) refl refl refl
     go false false true ex ey ez =
         let h₁ = ltb-false c 0x800 ey in
         let h₂ = ltb-true c 0x1_0000 ez in
-        rw (ex, ey, ez, le-ltb (0xe0 + c / 0x1000) 0x80 (omega arith), le-ltb (0xe0 + c / 0x1000) 0xe0 (omega arith), lt-ltb (0xe0 + c / 0x1000) 0xf0 (omega arith))
+        rw (
+          ex,
+          ey,
+          ez,
+          le-ltb (0xe0 + c / 0x1000) 0x80 (omega arith),
+          le-ltb (0xe0 + c / 0x1000) 0xe0 (omega arith),
+          lt-ltb (0xe0 + c / 0x1000) 0xf0
+              (omega arith),
+        )
         (ap (λ (i : ℕ). (i, 3)) (omega arith))
     go false false false ex ey ez =
         let h₁ = ltb-false c 0x1_0000 ez in
-        rw (ex, ey, ez, le-ltb (0xf0 + c / 0x4_0000) 0x80 (omega arith), le-ltb (0xf0 + c / 0x4_0000) 0xe0 (omega arith), le-ltb (0xf0 + c / 0x4_0000) 0xf0 (omega arith))
+        rw (
+          ex,
+          ey,
+          ez,
+          le-ltb (0xf0 + c / 0x4_0000) 0x80 (omega arith),
+          le-ltb (0xf0 + c / 0x4_0000) 0xe0 (omega arith),
+          le-ltb (0xf0 + c / 0x4_0000) 0xf0
+              (omega arith),
+        )
         (ap (λ (i : ℕ). (i, 4)) (omega (arith, div-div-eq-div-mul c 0x1000 0x40, div-div-eq-div-mul c 0x40 0x40)))
 
 -- UTF-8 written decodes to the characters meant

@@ -47,7 +47,8 @@ filetime-text n h =
       day-number = there-and-back d inside ∙ div-div-eq-div-mul n 10_000_000 86_400;
       year = padded-back 10 (omega arith) 4 (dateOf d .year) (omega (arith, r .year-high));
       month = padded-back 10 (omega arith) 2 (dateOf d .month) (omega (arith, r .month-high));
-      day = padded-back 10 (omega arith) 2 (dateOf d .day) (omega (arith, r .day-high, month-short (dateOf d .year) (dateOf d .month) (r .month-low) (r .month-high)));
+      day = padded-back 10 (omega arith) 2 (dateOf d .day)
+          (omega (arith, r .day-high, month-short (dateOf d .year) (dateOf d .month) (r .month-low) (r .month-high)));
       hour = padded-back 10 (omega arith) 2 (seconds / 3_600 % 24) (omega arith) ∙ ap (_% 24) (div-div-eq-div-mul n 10_000_000 3_600);
       minute = padded-back 10 (omega arith) 2 (seconds / 60 % 60) (omega arith) ∙ ap (_% 60) (div-div-eq-div-mul n 10_000_000 60);
       second = padded-back 10 (omega arith) 2 (seconds % 60) (omega arith);

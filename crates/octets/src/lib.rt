@@ -1,5 +1,5 @@
-// Little-endian numbers from a slice, and comparison with known bytes. A byte that the slice does not have reads as 0, as the definition of `numberAt` has it, so
-// that every function here answers for every offset.
+// Little-endian numbers from a slice, and comparison with known bytes. A byte that the slice does not have reads as 0, as the definition of
+// `numberAt` has it, so that every function here answers for every offset.
 ghost use mathlib.Core.Path.{_≡_};
 ghost use Prim.Native.Nat.{_+_, _≤_, _<_, min};
 ghost use lib.ListN.{length, getD};

@@ -82,7 +82,9 @@ fileTime b = if leb (number b) 2_650_467_743_999_999_999 then some (fileTimeText
 
 -- a date from 1601 to 9999, on a real day of its month
 abbrev pub isDate : Date → Bool
-isDate d = leb 1_601 (d .year) && leb (d .year) 9_999 && leb 1 (d .month) && leb (d .month) 12 && leb 1 (d .day) && leb (d .day) (daysOfMonth (d .year) (d .month))
+isDate d =
+    leb 1_601 (d .year) && leb (d .year) 9_999 && leb 1 (d .month) && leb (d .month) 12
+    && leb 1 (d .day) && leb (d .day) (daysOfMonth (d .year) (d .month))
 
 -- hour, minute and second below 24, 60, 60
 abbrev pub isClock : ℕ → ℕ → ℕ → Bool

@@ -1,17 +1,12 @@
 -- Characters as they are written: which are written as themselves.
-use mathlib.Core.Path.{_≡_, refl, _∙_}
+use mathlib.Core.Path.{_≡_}
 use mathlib.Core.Bool.{Bool, true, false, _&&_, not}
 use mathlib.Core.List.{List, [], _∷_}
-use Prim.Native.Nat.{ℕ, _+_, _≤_, _<_}
-use native.Mathlib.Omega.{arith}
-use borrow.Author.Tests.{leb-true, eqb-false, not-true, le-leb, lt-ltb, ne-eqb}
+use Prim.Native.Nat.{ℕ, _+_, _<_}
 use lib.Dec.{eqb, leb}
-use lib.ListN.{getD}
-use Rattle.laws.specs.Tables.{tabled, tabled-at}
-use Rattle.rules.specs.Bytes.{if_then_else_}
-use Rattle.rules.specs.Strings.{isXml, utf8, escapes, shown, allShown}
-use Rattle.laws.specs.Tests.{both}
-use Rattle.utf16.specs.Carry.{carried, completed, carryOf, carried-low, shown-one}
+use Rattle.laws.specs.Tables.{tabled}
+use Rattle.rules.specs.Strings.{allShown}
+use Rattle.utf16.specs.Carry.{carried, completed, carryOf}
 
 -- the unit, with nothing carried over, is written as itself, and carries nothing over
 pub record Plainly (carry u : ℕ) : Type 0 where
@@ -24,60 +19,14 @@ abbrev pub PlainlyIf : Bool → ℕ → ℕ → Type 0
 PlainlyIf true carry u = Plainly carry u
 PlainlyIf false carry u = Unit {0}
 
-itself : (c : ℕ) → 32 ≤ c → c < 128 → (c ≡ 34 → ⊥) → (c ≡ 38 → ⊥) → (c ≡ 39 → ⊥) → (c ≡ 60 → ⊥) → (c ≡ 62 → ⊥) → shown c ≡ c ∷ []
-unfolding shown escapes utf8
-itself c h g n₃₄ n₃₈ n₃₉ n₆₀ n₆₂ =
-    let n₉ = ne-eqb c 9 (λ e. omega arith) in
-    let n₁₀ = ne-eqb c 10 (λ e. omega arith) in
-    let n₁₃ = ne-eqb c 13 (λ e. omega arith) in
-    simp (ne-eqb c 34 n₃₄, ne-eqb c 38 n₃₈, ne-eqb c 39 n₃₉, ne-eqb c 60 n₆₀, ne-eqb c 62 n₆₂, n₉, n₁₀, n₁₃, le-leb 0x20 c h, le-leb c 0xd7ff (omega arith), lt-ltb c 0x80 g)
-
--- a unit that is written as itself
-pub plainly : (carry u : ℕ) → carry ≡ 0 → 32 ≤ u → u < 128 → (u ≡ 34 → ⊥) → (u ≡ 38 → ⊥) → (u ≡ 39 → ⊥) → (u ≡ 60 → ⊥) → (u ≡ 62 → ⊥) → Plainly carry u
-plainly carry u z h g n₃₄ n₃₈ n₃₉ n₆₀ n₆₂ =
-    record {
-      none = z;
-      small = g;
-      next = rw (z, ← (carried-low u (omega arith) .is));
-      itself = rw (z, carried-low u (omega arith) .itself) (shown-one u ∙ itself u h g n₃₄ n₃₈ n₃₉ n₆₀ n₆₂);
-    }
-
 -- whether a unit is written as itself
-abbrev isPlain : ℕ → Bool
+abbrev pub isPlain : ℕ → Bool
 isPlain u = leb 32 u && leb u 127 && not (eqb u 34) && not (eqb u 38) && not (eqb u 39) && not (eqb u 60) && not (eqb u 62)
 
-abbrev bit : Bool → ℕ
+abbrev pub bit : Bool → ℕ
 bit true = 1
 bit false = 0
-
-is-plain : (u : ℕ) → isPlain u ≡ true → Plainly 0 u
-is-plain u e =
-    let n₆₂ = both _ _ e in
-    let n₆₀ = both _ _ (n₆₂ .0) in
-    let n₃₉ = both _ _ (n₆₀ .0) in
-    let n₃₈ = both _ _ (n₃₉ .0) in
-    let n₃₄ = both _ _ (n₃₈ .0) in
-    let range = both _ _ (n₃₄ .0) in
-    let high = leb-true u 127 (range .1) in
-    plainly 0 u refl (leb-true 32 u (range .0)) (omega arith) (not-it 34 (n₃₄ .1)) (not-it 38 (n₃₈ .1)) (not-it 39 (n₃₉ .1)) (not-it 60 (n₆₀ .1)) (not-it 62 (n₆₂ .1))
-  where
-    not-it : (c : ℕ) → not (eqb u c) ≡ true → u ≡ c → ⊥
-    not-it c e = eqb-false u c (not-true (eqb u c) e)
 
 -- the units of ASCII: a digit 1 for each that is written as itself, and 0 for the others
 abbrev pub plainTable : List ℕ
 plainTable = tabled (λ k. 48 + bit (isPlain k)) 128
-
-pub plain-entry : (u : ℕ) → u < 128 → PlainlyIf (eqb (getD plainTable u 0) 49) 0 u
-plain-entry u h = rw (tabled-at (λ k. 48 + bit (isPlain k)) 128 u 0 h) (go (isPlain u) refl)
-  where
-    go : (t : Bool) → isPlain u ≡ t → PlainlyIf (eqb (48 + bit t) 49) 0 u
-    go true e = is-plain u e
-    go false e = tt
-
--- a character that is not escaped
-pub not-escaped : (c : ℕ) → (c ≡ 38 → ⊥) → (c ≡ 60 → ⊥) → (c ≡ 62 → ⊥) → (c ≡ 34 → ⊥) → (c ≡ 39 → ⊥) → (c ≡ 9 → ⊥) → (c ≡ 10 → ⊥) → (c ≡ 13 → ⊥)
-    → shown c ≡ utf8 (if isXml c then c else 0xfffd)
-unfolding shown escapes
-not-escaped c n₃₈ n₆₀ n₆₂ n₃₄ n₃₉ n₉ n₁₀ n₁₃ =
-    simp (ne-eqb c 38 n₃₈, ne-eqb c 60 n₆₀, ne-eqb c 62 n₆₂, ne-eqb c 34 n₃₄, ne-eqb c 39 n₃₉, ne-eqb c 9 n₉, ne-eqb c 10 n₁₀, ne-eqb c 13 n₁₃)

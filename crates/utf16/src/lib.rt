@@ -11,12 +11,6 @@ ghost use Rattle.rules.specs.Strings.{utf8, isXml, shown, allShown, stringText}
 ghost use Rattle.utf16.specs.Carry.{unlessHigh, completed, leftOver, carryOf, Carried};
 ghost use Rattle.utf16.specs.Shown.{PlainlyIf, plainTable};
 
-fn wide(b: u8) -> u32
-    ensures { λ r. ⌜ (r ≡ b) × (r < 256) ⌝ }
-{
-    b as u32
-}
-
 fn byte(c: u32) -> u8
     requires { ⌜ c < 256 ⌝ }
     ensures { λ r. ⌜ r ≡ c ⌝ }
@@ -28,7 +22,7 @@ fn unit(src: &[u8], i: usize) -> u32
     requires { ⌜ i + 1 < length (now src) ⌝ }
     ensures { λ r. ⌜ (r ≡ getD (now (src .entry)) i 0 + 256 * getD (now (src .entry)) (i + 1) 0) × (r < 65536) ⌝ }
 {
-    wide(src[i]) + 256 * wide(src[i + 1])
+    (octets::wide(src[i]) + 256 * octets::wide(src[i + 1])) as u32
 }
 
 // The byte `first`, and then the last twelve bits of c in two.

@@ -1,6 +1,8 @@
 // The text of a value, for C: number, length, and the text at the front of the memory lent.
+ghost use lib.ListN.{length};
+ghost use Rattle.rules.specs.Answers.{Answered};
 ghost use Rattle.rules.specs.Values.{valueText};
-ghost use Rattle.value_c.specs.Call.{Told};
+ghost use Rattle.value_c.specs.Call.{outcome};
 use value::Put;
 
 // What a call answers: a number of document 01, and the length of the text.
@@ -14,7 +16,8 @@ pub struct EvtxValue {
 // fits, with all of out. So a refused call leaves out as it was.
 #[no_mangle]
 pub extern "C" fn evtx_put_value(kind: u8, src: &[u8], out: &mut [u8]) -> EvtxValue
-    ensures { λ r. ⌜ Told (valueText kind (now (src .entry))) (now (out .entry)) (now (out .exit)) (r .number) (r .length) ⌝ }
+    ensures { λ r. ⌜ Answered (outcome (length (now (out .entry))) (valueText kind (now (src .entry))))
+        (now (out .entry)) (now (out .exit)) (r .number) (r .length) ⌝ }
 {
     match value::put_value(&mut out[..0], 0, kind, src) {
         Put::Done { at } => {

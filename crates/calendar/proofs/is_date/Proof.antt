@@ -2,7 +2,7 @@
 use mathlib.Core.Path.{_≡_}
 use Prim.Native.Nat.{_+_, _-_}
 use borrow.Author.Tests.{le-leb, lt-leb}
-use Rattle.calendar.specs.Years.{row-of, row-rises}
+use Rattle.calendar.proofs.Years.{row-of, row-rises}
 use native.Mathlib.Omega.{arith}
 use borrow.Author.Needs.{needs}
 use Rattle.calendar.proofs.is_date.Statement.{statement}
@@ -18,44 +18,54 @@ returns-3 : tie.Need-returns-3
 returns-3 c = rw (le-leb _ _ (c .before .before .before .before .if1 .left), le-leb _ _ (c .before .before .if2 .left), lt-leb _ _ (c .if3 .taken))
 
 returns-4 : tie.Need-returns-4
-returns-4 c = rw (le-leb _ _ (c .before .before .before .before .before .before .if1 .left), le-leb _ _ (c .before .before .before .before .if2 .left), le-leb _ _ (c .before .before .if3 .left), lt-leb _ _ (c .if4 .taken))
+returns-4 c =
+    let b4 = c .before .before .before .before in let b6 = b4 .before .before in
+    rw (le-leb _ _ (b6 .if1 .left), le-leb _ _ (b4 .if2 .left), le-leb _ _ (c .before .before .if3 .left), lt-leb _ _ (c .if4 .taken))
 
 returns-5 : tie.Need-returns-5
-returns-5 c = rw (le-leb _ _ (c .before .before .before .before .before .before .before .before .if1 .left), le-leb _ _ (c .before .before .before .before .before .before .if2 .left), le-leb _ _ (c .before .before .before .before .if3 .left), le-leb _ _ (c .before .before .if4 .left), lt-leb _ _ (c .if5 .taken))
-
-is-leap-requires : tie.Need-is-leap-requires
-is-leap-requires c κs = search needs
-
-days-before-requires : tie.Need-days-before-requires
-days-before-requires c κs = search needs
-
-sub-days-before : tie.Need-sub-days-before
-sub-days-before c = search needs
-
-days-before-requires-2 : tie.Need-days-before-requires-2
-days-before-requires-2 c κs = search needs
+returns-5 c =
+    let b4 = c .before .before .before .before in let b6 = b4 .before .before in let b8 = b6 .before .before in
+    rw (
+      le-leb _ _ (b8 .if1 .left),
+      le-leb _ _ (b6 .if2 .left),
+      le-leb _ _ (b4 .if3 .left),
+      le-leb _ _ (c .before .before .if4 .left),
+      lt-leb _ _
+          (c .if5 .taken),
+    )
 
 sub-result : tie.Need-sub-result
-sub-result c = omega (arith, c .before .days-before .ensures, c .days-before2 .ensures, row-rises (c .before .before .is-leap .result) (c .before .before .before .before .before .before .before .before .before .before .before .before .before .args .d .month) (c .before .before .before .before .before .before .before .if3 .left) (c .before .before .before .before .before .if4 .left))
+sub-result c =
+    let b5 = c .before .before .before .before .before in let b7 = b5 .before .before in let b13 = b7 .before .before .before .before .before .before in
+    omega (
+      arith,
+      c .before .days-before .ensures,
+      c .days-before2 .ensures,
+      row-rises (c .before .before .is-leap .result) (b13 .args .d .month)
+          (b7 .if3 .left) (b5 .if4 .left),
+    )
 
 returns-6 : tie.Need-returns-6
 returns-6 c =
-    let next : c .before .before .before .before .before .before .before .before .before .before .before .before .before .before .args .d .month + 1 - 1 ≡ c .before .before .before .before .before .before .before .before .before .before .before .before .before .before .args .d .month = omega arith in
-    let same = row-of (c .before .before .before .before .before .before .before .before .before .before .before .before .before .before .args .d .year) (c .before .before .before .is-leap .result) (c .before .before .before .is-leap .ensures) in
-    rw (le-leb _ _ (c .before .before .before .before .before .before .before .before .before .before .before .before .if1 .left), le-leb _ _ (c .before .before .before .before .before .before .before .before .before .before .if2 .left), le-leb _ _ (c .before .before .before .before .before .before .before .before .if3 .left), le-leb _ _ (c .before .before .before .before .before .before .if4 .left), le-leb _ _ (c .before .before .before .before .if5 .left), next, ← same, c .before .before .days-before .ensures, c .before .days-before2 .ensures)
+    let b3 = c .before .before .before in let b4 = b3 .before in let b6 = b4 .before .before in let b8 = b6 .before .before in
+    let b10 = b8 .before .before in let b12 = b10 .before .before in let b14 = b12 .before .before in
+    let next : b14 .args .d .month + 1 - 1 ≡ b14 .args .d .month = omega arith in
+    let same = row-of (b14 .args .d .year) (b3 .is-leap .result) (b3 .is-leap .ensures) in
+    rw (
+      le-leb _ _ (b12 .if1 .left),
+      le-leb _ _ (b10 .if2 .left),
+      le-leb _ _ (b8 .if3 .left),
+      le-leb _ _ (b6 .if4 .left),
+      le-leb _ _ (b4 .if5 .left),
+      next,
+      ←
+          same,
+      c .before .before .days-before .ensures,
+      c .before .days-before2 .ensures,
+    )
 
 pub is-date-spec : {M : Type 1} → statement M
 is-date-spec =
     tie.close
-    (tie.spec
-    returns
-    returns-2
-    returns-3
-    returns-4
-    returns-5
-    is-leap-requires
-    days-before-requires
-    sub-days-before
-    days-before-requires-2
-    sub-result
-    returns-6)
+    (tie.spec returns returns-2 returns-3 returns-4 returns-5 (λ c κs. search needs) (λ c κs. search needs) (λ c. search needs) (λ c κs. search needs)
+    sub-result returns-6)

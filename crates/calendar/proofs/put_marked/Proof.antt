@@ -1,44 +1,18 @@
 -- `put_marked` meets its contract: its five parts in a row.
-use Prim.Native.Nat.{_<_, _^_}
-use denote.Ref.{now}
-use lib.ListN.{length}
-use Rattle.output.specs.Output.{wrote-more}
-use native.Mathlib.Omega.{arith}
+use Rattle.output.proofs.Output.{row, _&_}
 use borrow.Author.Needs.{needs}
 use Rattle.calendar.proofs.put_marked.Statement.{statement}
 use Rattle.calendar.proofs.put_marked.Tie as tie
 
-put-padded-requires : tie.Need-put-padded-requires
-put-padded-requires c κs = search needs
-
-put-requires : tie.Need-put-requires
-put-requires c κs = search needs
-
-put-padded-requires-2 : tie.Need-put-padded-requires-2
-put-padded-requires-2 c κs = search needs
-
-put-requires-2 : tie.Need-put-requires-2
-put-requires-2 c κs = search needs
-
-put-padded-requires-3 : tie.Need-put-padded-requires-3
-put-padded-requires-3 c κs = search needs
-
-same-length : tie.Need-same-length
-same-length c = search needs
-
 returns : tie.Need-returns
 returns c =
-    let room : length (now (c .before .before .before .before .before .before .before .before .before .before .before .before .before .before .before .before .before .before .before .before .before .args .out)) < 2 ^ 63 = omega (arith, c .before .before .before .before .before .before .before .before .before .before .before .before .before .before .before .before .before .before .before .before .before .good) in
-    wrote-more room (wrote-more room (wrote-more room (wrote-more room (c .before .before .before .before .before .before .before .before .before .before .before .before .before .before .before .before .before .before .put-padded .ensures) (c .before .before .before .before .before .before .before .before .before .before .before .before .before .before .put .ensures)) (c .before .before .before .before .before .before .before .before .before .before .put-padded2 .ensures)) (c .before .before .before .before .before .before .put2 .ensures)) (c .before .before .put-padded3 .ensures)
+    let b6 = c .before .before .before .before .before .before in let b10 = b6 .before .before .before .before in
+    let b14 = b10 .before .before .before .before in let b18 = b14 .before .before .before .before in
+    (row (search needs) & b18 .put-padded .ensures & b14 .put .ensures & b10 .put-padded2 .ensures & b6 .put2 .ensures
+    & c .before .before .put-padded3 .ensures) .wrote
 
 pub put-marked-spec : {M : Type 1} → statement M
 put-marked-spec =
     tie.close
-    (tie.spec
-    put-padded-requires
-    put-requires
-    put-padded-requires-2
-    put-requires-2
-    put-padded-requires-3
-    same-length
+    (tie.spec (λ c κs. search needs) (λ c κs. search needs) (λ c κs. search needs) (λ c κs. search needs) (λ c κs. search needs) (λ c. search needs)
     returns)

@@ -1,50 +1,20 @@
 -- `put_time` meets its contract: its six parts in a row.
-use Prim.Native.Nat.{_<_, _^_}
-use denote.Ref.{now}
-use lib.ListN.{length}
-use Rattle.output.specs.Output.{wrote-more}
+use Rattle.output.proofs.Output.{row, _&_}
 use Rattle.rules.specs.Dates.{dateText, clockText, timeText}
-use native.Mathlib.Omega.{arith}
 use borrow.Author.Needs.{needs}
 use Rattle.calendar.proofs.put_time.Statement.{statement}
 use Rattle.calendar.proofs.put_time.Tie as tie
 
-put-marked-requires : tie.Need-put-marked-requires
-put-marked-requires c κs = search needs
-
-put-requires : tie.Need-put-requires
-put-requires c κs = search needs
-
-put-marked-requires-2 : tie.Need-put-marked-requires-2
-put-marked-requires-2 c κs = search needs
-
-put-requires-2 : tie.Need-put-requires-2
-put-requires-2 c κs = search needs
-
-put-padded-requires : tie.Need-put-padded-requires
-put-padded-requires c κs = search needs
-
-put-requires-3 : tie.Need-put-requires-3
-put-requires-3 c κs = search needs
-
-same-length : tie.Need-same-length
-same-length c = search needs
-
 returns : tie.Need-returns
 unfolding timeText dateText clockText
 returns c =
-    let room : length (now (c .before .before .before .before .before .before .before .before .before .before .before .before .before .before .before .before .before .before .before .before .before .before .before .before .before .args .out)) < 2 ^ 63 = omega (arith, c .before .before .before .before .before .before .before .before .before .before .before .before .before .before .before .before .before .before .before .before .before .before .before .before .before .good) in
-    wrote-more room (wrote-more room (wrote-more room (wrote-more room (wrote-more room (c .before .before .before .before .before .before .before .before .before .before .before .before .before .before .before .before .before .before .before .before .before .before .put-marked .ensures) (c .before .before .before .before .before .before .before .before .before .before .before .before .before .before .before .before .before .before .put .ensures)) (c .before .before .before .before .before .before .before .before .before .before .before .before .before .before .put-marked2 .ensures)) (c .before .before .before .before .before .before .before .before .before .before .put2 .ensures)) (c .before .before .before .before .before .before .put-padded .ensures)) (c .before .before .put3 .ensures)
+    let b6 = c .before .before .before .before .before .before in let b10 = b6 .before .before .before .before in
+    let b14 = b10 .before .before .before .before in let b18 = b14 .before .before .before .before in let b22 = b18 .before .before .before .before in
+    (row (search needs) & b22 .put-marked .ensures & b18 .put .ensures & b14 .put-marked2 .ensures & b10 .put2 .ensures & b6 .put-padded .ensures
+    & c .before .before .put3 .ensures) .wrote
 
 pub put-time-spec : {M : Type 1} → statement M
 put-time-spec =
     tie.close
-    (tie.spec
-    put-marked-requires
-    put-requires
-    put-marked-requires-2
-    put-requires-2
-    put-padded-requires
-    put-requires-3
-    same-length
-    returns)
+    (tie.spec (λ c κs. search needs) (λ c κs. search needs) (λ c κs. search needs) (λ c κs. search needs) (λ c κs. search needs) (λ c κs. search needs)
+    (λ c. search needs) returns)

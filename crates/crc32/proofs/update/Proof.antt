@@ -4,7 +4,8 @@ use mathlib.Core.Path.{refl}
 use Prim.Native.Nat.{_-_, _≤_}
 use lib.ListN.{length}
 use Rattle.crc32.specs.Table.{right}
-use Rattle.crc32.specs.Passing.{Passing, pass-step, pass-end}
+use Rattle.crc32.specs.Passing.{Passing}
+use Rattle.crc32.proofs.Passing.{pass-step, pass-end}
 use borrow.Author.Needs.{needs}
 use Rattle.crc32.proofs.update.Statement.{statement}
 use Rattle.crc32.proofs.update.Tie as tie
@@ -19,21 +20,9 @@ begin-requires : tie.Need-begin-requires Inv-loop μ-loop
 unfolding right
 begin-requires c κs = (refl, refl)
 
-loop-holds : tie.Need-loop-holds Inv-loop μ-loop
-loop-holds c = search needs
-
-shared-slice-read-step : tie.Need-shared-slice-read-step Inv-loop μ-loop
-shared-slice-read-step c = search needs
-
 step-requires : tie.Need-step-requires Inv-loop μ-loop
 unfolding right
 step-requires c κs = (refl, refl)
-
-add-i : tie.Need-add-i Inv-loop μ-loop
-add-i c = search needs
-
-loop-less : tie.Need-loop-less Inv-loop μ-loop
-loop-less c = search needs
 
 loop-again : tie.Need-loop-again Inv-loop μ-loop
 loop-again c = (search needs, pass-step _ (search needs) (c .before .before .before .before .loop .inv .1) (c .step .ensures))
@@ -44,14 +33,5 @@ returns c = pass-end (search needs) (c .before .loop .inv .1)
 pub update-spec : {M : Type 1} → statement M
 update-spec =
     tie.close
-    (tie.spec
-    Inv-loop
-    μ-loop
-    begin-requires
-    loop-holds
-    shared-slice-read-step
-    step-requires
-    add-i
-    loop-less
-    loop-again
+    (tie.spec Inv-loop μ-loop begin-requires (λ c. search needs) (λ c. search needs) step-requires (λ c. search needs) (λ c. search needs) loop-again
     returns)

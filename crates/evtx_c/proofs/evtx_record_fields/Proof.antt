@@ -5,15 +5,6 @@ use borrow.Author.Needs.{needs}
 use Rattle.evtx_c.proofs.evtx_record_fields.Statement.{statement}
 use Rattle.evtx_c.proofs.evtx_record_fields.Tie as tie
 
-record-fields-requires : tie.Need-record-fields-requires
-record-fields-requires c κs = search needs
-
-enum-known-record-number : tie.Need-enum-known-record-number
-enum-known-record-number c = search needs
-
-enum-known-number : tie.Need-enum-known-number
-enum-known-number c = search needs
-
 returns : tie.Need-returns
 returns c = ap fieldsIn (rw (c .before .record-number .given .1) at (c .before .before .before .record-fields .ensures))
 
@@ -23,4 +14,4 @@ returns-2 c = ap fieldsIn (rw (c .before .number .given .1) at (c .before .befor
 pub evtx-record-fields-spec : {M : Type 1} → statement M
 evtx-record-fields-spec =
     tie.close
-    (tie.spec record-fields-requires enum-known-record-number enum-known-number returns returns-2)
+    (tie.spec (λ c κs. search needs) (λ c. search needs) (λ c. search needs) returns returns-2)

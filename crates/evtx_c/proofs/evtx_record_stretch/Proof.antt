@@ -5,15 +5,6 @@ use borrow.Author.Needs.{needs}
 use Rattle.evtx_c.proofs.evtx_record_stretch.Statement.{statement}
 use Rattle.evtx_c.proofs.evtx_record_stretch.Tie as tie
 
-record-stretch-requires : tie.Need-record-stretch-requires
-record-stretch-requires c κs = search needs
-
-enum-known-offset : tie.Need-enum-known-offset
-enum-known-offset c = search needs
-
-enum-known-number : tie.Need-enum-known-number
-enum-known-number c = search needs
-
 returns : tie.Need-returns
 returns c = ap stretchIn (rw (c .before .offset .given .1) at (c .before .before .before .record-stretch .ensures))
 
@@ -23,4 +14,4 @@ returns-2 c = ap stretchIn (rw (c .before .number .given .1) at (c .before .befo
 pub evtx-record-stretch-spec : {M : Type 1} → statement M
 evtx-record-stretch-spec =
     tie.close
-    (tie.spec record-stretch-requires enum-known-offset enum-known-number returns returns-2)
+    (tie.spec (λ c κs. search needs) (λ c. search needs) (λ c. search needs) returns returns-2)

@@ -1,12 +1,11 @@
 -- `put_cut` meets its contract. The measure is the count of digits.
 use mathlib.Core.Path.{_≡_, refl}
-use Prim.Native.Nat.{suc, _-_, _/_}
-use Rattle.output.specs.Output.{wrote-nil, wrote-more}
+use Prim.Native.Nat.{suc, _-_, _/_, ℕ, _<_}
+use Rattle.output.proofs.Output.{wrote-nil, wrote-more}
 use Rattle.rules.specs.Numerals.{lastDigits}
-use Rattle.numeral.specs.Digits.{base-bounds, remainder}
+use Rattle.numeral.proofs.Digits.{base-bounds, remainder}
 use borrow.Author.Needs.{needs}
 use native.Mathlib.Omega.{arith}
-use Prim.Native.Nat.{ℕ, _<_}
 use borrow.Fn.Kinds.{In}
 use borrow.Fn.PlainCycle.{Measures, is, falls, and}
 use Rattle.numeral.proofs.put_cut.Reads as put-cut
@@ -35,34 +34,26 @@ put-cut-returns : (t : ℕ) → put-cut-lts.Need-returns (put-cut-calls t) (put-
 unfolding lastDigits
 put-cut-returns t c = rw (c .if1 .taken) (wrote-nil _ _)
 
-put-cut-sub-put-cut : (t : ℕ) → put-cut-lts.Need-sub-put-cut (put-cut-calls t) (put-cut-at t) put-cut.Post
-put-cut-sub-put-cut t c = search needs
-
 put-cut-div-put-cut : (t : ℕ) → put-cut-lts.Need-div-put-cut (put-cut-calls t) (put-cut-at t) put-cut.Post
 put-cut-div-put-cut t c = let b = base-bounds (c .before .before .before .pre .1) in search needs
-
-put-cut-put-cut-requires : (t : ℕ) → put-cut-lts.Need-put-cut-requires (put-cut-calls t) (put-cut-at t) put-cut.Post
-put-cut-put-cut-requires t c κs = search needs
 
 put-cut-rem-digit : (t : ℕ) → put-cut-lts.Need-rem-digit (put-cut-calls t) (put-cut-at t) put-cut.Post
 put-cut-rem-digit t c = let b = base-bounds (c .before .before .before .before .before .before .before .pre .1) in search needs
 
 put-cut-digit-requires : (t : ℕ) → put-cut-lts.Need-digit-requires (put-cut-calls t) (put-cut-at t) put-cut.Post
 put-cut-digit-requires t c κs =
-    let a = c .before .before .before .before .before .before .before .args in
-    remainder (c .before .before .before .before .before .before .before .pre .1) (a .n) (a .n / a .base) refl .2
-
-put-cut-put-requires : (t : ℕ) → put-cut-lts.Need-put-requires (put-cut-calls t) (put-cut-at t) put-cut.Post
-put-cut-put-requires t c κs = search needs
-
-put-cut-same-length : (t : ℕ) → put-cut-lts.Need-same-length (put-cut-calls t) (put-cut-at t) put-cut.Post
-put-cut-same-length t c = search needs
+    let b7 = c .before .before .before .before .before .before .before in
+    let a = b7 .args in
+    remainder (b7 .pre .1) (a .n) (a .n / a .base) refl .2
 
 put-cut-returns-2 : (t : ℕ) → put-cut-lts.Need-returns-2 (put-cut-calls t) (put-cut-at t) put-cut.Post
 unfolding lastDigits
 put-cut-returns-2 t c =
-    let k : suc (c .before .before .before .before .before .before .before .before .before .before .before .args .k - 1) ≡ c .before .before .before .before .before .before .before .before .before .before .before .args .k = omega arith in
-    rw (← k) (wrote-more (search needs) (c .before .before .before .before .before .before .before .put-cut .ensures) (rw (c .before .before .before .digit .ensures) at (c .before .before .put .ensures)))
+    let b3 = c .before .before .before in let b7 = b3 .before .before .before .before in let b11 = b7 .before .before .before .before in
+    let k : suc (b11 .args .k - 1) ≡ b11 .args .k = omega arith in
+    rw (← k) (wrote-more (search needs) (b7 .put-cut .ensures) (rw (b3 .digit .ensures) at (c .before .before .put .ensures)))
 
 pub +put-cut-spec : {M : Type 1} → statement M
-+put-cut-spec = close μ-put-cut λ t. put-cut-lts.spec (put-cut-calls t) (put-cut-at t) put-cut.Post (put-cut-returns t) (put-cut-sub-put-cut t) (put-cut-div-put-cut t) (put-cut-put-cut-requires t) (put-cut-rem-digit t) (put-cut-digit-requires t) (put-cut-put-requires t) (put-cut-same-length t) (put-cut-returns-2 t)
++put-cut-spec = close μ-put-cut λ t. put-cut-lts.spec (put-cut-calls t) (put-cut-at t) put-cut.Post (put-cut-returns t) (λ c. search needs)
+    (put-cut-div-put-cut t) (λ c κs. search needs) (put-cut-rem-digit t) (put-cut-digit-requires t) (λ c κs. search needs) (λ c. search needs)
+    (put-cut-returns-2 t)

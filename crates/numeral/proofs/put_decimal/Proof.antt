@@ -1,6 +1,6 @@
 -- `put_decimal` meets its contract: base 10.
 use Rattle.rules.specs.Numerals.{decimal}
-use Rattle.numeral.specs.Digits.{base-10, base-16}
+use Rattle.numeral.proofs.Digits.{base-10, base-16}
 use borrow.Author.Needs.{needs}
 use Rattle.numeral.proofs.put_decimal.Statement.{statement}
 use Rattle.numeral.proofs.put_decimal.Tie as tie
@@ -8,12 +8,9 @@ use Rattle.numeral.proofs.put_decimal.Tie as tie
 put-digits-requires : tie.Need-put-digits-requires
 put-digits-requires c κs = search (needs, base-10, base-16)
 
-same-length : tie.Need-same-length
-same-length c = search needs
-
 returns : tie.Need-returns
 unfolding decimal
 returns c = c .before .before .put-digits .ensures
 
 pub put-decimal-spec : {M : Type 1} → statement M
-put-decimal-spec = tie.close (tie.spec put-digits-requires same-length returns)
+put-decimal-spec = tie.close (tie.spec put-digits-requires (λ c. search needs) returns)

@@ -3,7 +3,7 @@ use Prim.Native.Nat.{_-_, _≤_}
 use native.Mathlib.Omega.{arith}
 use lib.ListN.{length}
 use Rattle.rules.specs.Bytes.{part}
-use Rattle.octets.specs.Comparing.{Comparing, compare-start, same-shorter, part-room, same-past, at-step, at-other, at-end}
+use Rattle.octets.proofs.Comparing.{Comparing, compare-start, same-shorter, part-room, same-past, at-step, at-other, at-end}
 use borrow.Author.Needs.{needs}
 use Rattle.octets.proofs.same_at.Statement.{statement}
 use Rattle.octets.proofs.same_at.Tie as tie
@@ -17,9 +17,6 @@ abbrev μ-loop : tie.MeasureT-loop
 returns : tie.Need-returns Inv-loop μ-loop
 returns c = let a = c .before .args in same-past (a .i) (a .s .now) (a .known .now) (c .if1 .taken)
 
-sub-if2 : tie.Need-sub-if2 Inv-loop μ-loop
-sub-if2 c = search needs
-
 returns-2 : tie.Need-returns-2 Inv-loop μ-loop
 returns-2 c =
     let a = c .before .before .args in
@@ -28,26 +25,11 @@ returns-2 c =
 loop-holds : tie.Need-loop-holds Inv-loop μ-loop
 loop-holds c = (search needs, compare-start)
 
-add-if3 : tie.Need-add-if3 Inv-loop μ-loop
-add-if3 c = search needs
-
-shared-slice-read-if3 : tie.Need-shared-slice-read-if3 Inv-loop μ-loop
-shared-slice-read-if3 c = search needs
-
-shared-slice-read-if3-2 : tie.Need-shared-slice-read-if3-2 Inv-loop μ-loop
-shared-slice-read-if3-2 c = search needs
-
 returns-3 : tie.Need-returns-3 Inv-loop μ-loop
 returns-3 c =
     let l = c .before .before .before .before .loop in
     let a = c .before .before .before .before .before .before .before .args in
     at-other (a .i) (a .s .now) (a .known .now) (search needs) (l .k) (l .inv .1) (search needs) (c .if3 .taken)
-
-add-k : tie.Need-add-k Inv-loop μ-loop
-add-k c = search needs
-
-loop-less : tie.Need-loop-less Inv-loop μ-loop
-loop-less c = search needs
 
 loop-again : tie.Need-loop-again Inv-loop μ-loop
 loop-again c =
@@ -64,18 +46,5 @@ returns-4 c =
 pub same-at-spec : {M : Type 1} → statement M
 same-at-spec =
     tie.close
-    (tie.spec
-    Inv-loop
-    μ-loop
-    returns
-    sub-if2
-    returns-2
-    loop-holds
-    add-if3
-    shared-slice-read-if3
-    shared-slice-read-if3-2
-    returns-3
-    add-k
-    loop-less
-    loop-again
-    returns-4)
+    (tie.spec Inv-loop μ-loop returns (λ c. search needs) returns-2 loop-holds (λ c. search needs) (λ c. search needs) (λ c. search needs) returns-3
+    (λ c. search needs) (λ c. search needs) loop-again returns-4)

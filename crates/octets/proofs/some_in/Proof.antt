@@ -1,9 +1,9 @@
 -- `some_in` meets its contract: the bytes are read from the last to the first, and v is what those read so far hold.
 use mathlib.Core.Path.{_≡_, _∙_}
-use Prim.Native.Nat.{_+_, _-_, _≤_}
+use Prim.Native.Nat.{_+_, _*_, _-_, _^_, _≤_, _<_}
 use denote.Ref.{now}
 use Rattle.rules.specs.Bytes.{numberAt}
-use Rattle.octets.specs.Numbers.{number-step, number-fits}
+use Rattle.octets.proofs.Numbers.{number-step, number-fits}
 use borrow.Author.Needs.{needs}
 use native.Mathlib.Omega.{arith}
 use Rattle.octets.proofs.some_in.Statement.{statement}
@@ -18,38 +18,24 @@ abbrev μ-loop : tie.MeasureT-loop
 loop-holds : tie.Need-loop-holds Inv-loop μ-loop
 loop-holds c = let z : c .before .args .w - c .before .args .w ≡ 0 = omega arith in (search needs, rw z)
 
-sub-i : tie.Need-sub-i Inv-loop μ-loop
-sub-i c = search needs
-
-add-wide : tie.Need-add-wide Inv-loop μ-loop
-add-wide c = search needs
-
-shared-slice-read-wide : tie.Need-shared-slice-read-wide Inv-loop μ-loop
-shared-slice-read-wide c = search needs
-
-wide-requires : tie.Need-wide-requires Inv-loop μ-loop
-wide-requires c κs = search needs
-
-mul-v : tie.Need-mul-v Inv-loop μ-loop
-mul-v c =
-    let a = c .before .before .before .before .before .args in
-    let l = c .before .before .before .loop in
-    omega (arith, number-fits (now (a .s)) (c .before .before .before .before .shared-slice-known .given) (a .p) (a .w) (l .i) (l .v) (search needs) (search needs) (l .inv .0) (l .inv .1))
-
-add-v : tie.Need-add-v Inv-loop μ-loop
-add-v c =
-    let a = c .before .before .before .before .before .args in
-    let l = c .before .before .before .loop in
-    omega (arith, c .wide .ensures .0, number-fits (now (a .s)) (c .before .before .before .before .shared-slice-known .given) (a .p) (a .w) (l .i) (l .v) (search needs) (search needs) (l .inv .0) (l .inv .1))
-
-loop-less : tie.Need-loop-less Inv-loop μ-loop
-loop-less c = search needs
+-- the next number fits
+fits : (c : tie.After-wide Inv-loop μ-loop) → c .wide .result + c .before .before .before .loop .v * 256 < 2 ^ 64
+fits c =
+    let b3 = c .before .before .before in let b4 = b3 .before in
+    let a = b4 .before .args in
+    let l = b3 .loop in
+    rw (c .wide .ensures .0)
+    (number-fits (now (a .s)) (b4 .shared-slice-known .given) (a .p) (a .w) (l .i) (l .v) (search needs) (search needs) (l .inv .0) (l .inv .1))
 
 loop-again : tie.Need-loop-again Inv-loop μ-loop
 loop-again c =
-    let a = c .before .before .before .before .before .args in
-    let l = c .before .before .before .loop in
-    (search needs, rw (c .wide .ensures .0) (number-step (now (a .s)) (c .before .before .before .before .shared-slice-known .given) (a .p) (a .w) (l .i) (l .v) (search needs) (search needs) (l .inv .0) (l .inv .1)))
+    let b3 = c .before .before .before in let b4 = b3 .before in let b5 = b4 .before in
+    let a = b5 .args in
+    let l = b3 .loop in (
+      search needs,
+      rw (c .wide .ensures .0)
+          (number-step (now (a .s)) (b4 .shared-slice-known .given) (a .p) (a .w) (l .i) (l .v) (search needs) (search needs) (l .inv .0) (l .inv .1)),
+    )
 
 returns : tie.Need-returns Inv-loop μ-loop
 returns c =
@@ -62,16 +48,5 @@ returns c =
 pub some-in-spec : {M : Type 1} → statement M
 some-in-spec =
     tie.close
-    (tie.spec
-    Inv-loop
-    μ-loop
-    loop-holds
-    sub-i
-    add-wide
-    shared-slice-read-wide
-    wide-requires
-    mul-v
-    add-v
-    loop-less
-    loop-again
-    returns)
+    (tie.spec Inv-loop μ-loop loop-holds (λ c. search needs) (λ c. search needs) (λ c. search needs) (λ c κs. search needs)
+    (λ c. omega (arith, fits c)) (λ c. omega (arith, fits c)) (λ c. search needs) loop-again returns)

@@ -4,7 +4,7 @@ use mathlib.Core.List.{[], _∷_}
 use Prim.Native.Nat.{_-_, _≤_}
 use denote.Ref.{now}
 use lib.ListN.{length, drop}
-use Rattle.output.specs.Loops.{Left, left-start, each-step, each-end}
+use Rattle.output.proofs.Loops.{Left, left-start, each-step, each-end}
 use borrow.Author.Needs.{needs}
 use Rattle.output.proofs.put_text.Statement.{statement}
 use Rattle.output.proofs.put_text.Tie as tie
@@ -18,25 +18,14 @@ abbrev μ-loop : tie.MeasureT-loop
 loop-holds : tie.Need-loop-holds Inv-loop μ-loop
 loop-holds c = (search needs, left-start (search needs))
 
-shared-slice-read-put : tie.Need-shared-slice-read-put Inv-loop μ-loop
-shared-slice-read-put c = search needs
-
-put-requires : tie.Need-put-requires Inv-loop μ-loop
-put-requires c κs = search needs
-
-add-i : tie.Need-add-i Inv-loop μ-loop
-add-i c = search needs
-
-loop-less : tie.Need-loop-less Inv-loop μ-loop
-loop-less c = search needs
-
 loop-again : tie.Need-loop-again Inv-loop μ-loop
 loop-again c =
-    let head = c .before .before .before .before .before .before in
-    (search needs, each-step (λ l. l) (now (c .before .before .before .before .before .before .before .before .before .args .src)) (λ b. b ∷ []) (λ b bs. refl) (head .loop .i) (search needs) (head .loop .inv .1) (c .before .before .put .ensures))
-
-same-length : tie.Need-same-length Inv-loop μ-loop
-same-length c = search needs
+    let b5 = c .before .before .before .before .before in let b9 = b5 .before .before .before .before in
+    let head = b5 .before in (
+      search needs,
+      each-step (λ l. l) (now (b9 .args .src)) (λ b. b ∷ []) (λ b bs. refl) (head .loop .i) (search needs) (head .loop .inv .1)
+          (c .before .before .put .ensures),
+    )
 
 returns : tie.Need-returns Inv-loop μ-loop
 returns c = each-end (λ l. l) (now (c .before .before .before .before .args .src)) refl (c .before .loop .i) (search needs) (c .before .loop .inv .1)
@@ -44,14 +33,5 @@ returns c = each-end (λ l. l) (now (c .before .before .before .before .args .sr
 pub put-text-spec : {M : Type 1} → statement M
 put-text-spec =
     tie.close
-    (tie.spec
-    Inv-loop
-    μ-loop
-    loop-holds
-    shared-slice-read-put
-    put-requires
-    add-i
-    loop-less
-    loop-again
-    same-length
+    (tie.spec Inv-loop μ-loop loop-holds (λ c. search needs) (λ c κs. search needs) (λ c. search needs) (λ c. search needs) loop-again (λ c. search needs)
     returns)

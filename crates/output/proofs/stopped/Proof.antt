@@ -3,11 +3,8 @@ use borrow.Author.Needs.{needs}
 use Rattle.output.proofs.stopped.Statement.{statement}
 use Rattle.output.proofs.stopped.Tie as tie
 
-top-requires : tie.Need-top-requires
-top-requires c κs = search needs
-
 returns : tie.Need-returns
 returns c = rw (c .top .ensures)
 
 pub stopped-spec : {M : Type 1} → statement M
-stopped-spec = tie.close (tie.spec top-requires returns)
+stopped-spec = tie.close (tie.spec (λ c κs. search needs) returns)

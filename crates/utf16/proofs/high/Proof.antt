@@ -1,6 +1,6 @@
 -- `high` meets its contract.
 use mathlib.Core.Path.{refl}
-use Rattle.utf16.specs.Carry.{carried-low, carried-high, carried-over}
+use Rattle.utf16.proofs.Carry.{carried-low, carried-high, carried-over}
 use borrow.Author.Needs.{needs}
 use Rattle.utf16.proofs.high.Statement.{statement}
 use Rattle.utf16.proofs.high.Tie as tie
@@ -11,11 +11,8 @@ returns c = carried-low _ (c .if1 .taken)
 returns-2 : tie.Need-returns-2
 returns-2 c = carried-high _ (c .if2 .taken)
 
-add-result : tie.Need-add-result
-add-result c = search needs
-
 returns-3 : tie.Need-returns-3
 returns-3 c = carried-over _ _ (c .before .if1 .left) (c .if2 .left) refl
 
 pub high-spec : {M : Type 1} → statement M
-high-spec = tie.close (tie.spec returns returns-2 add-result returns-3)
+high-spec = tie.close (tie.spec returns returns-2 (λ c. search needs) returns-3)

@@ -3,7 +3,8 @@ use mathlib.Core.Logic.{⊎-elim}
 use mathlib.Core.Path.{_≡_}
 use Prim.Native.Nat.{_-_, _≤_}
 use native.Mathlib.Omega.{arith}
-use Rattle.crc32.specs.Rows.{Rows, rows-start, rows-step, before-first, before-later}
+use Rattle.crc32.specs.Rows.{Rows}
+use Rattle.crc32.proofs.FilledRows.{rows-start, rows-step, before-first, before-later}
 use borrow.Author.Needs.{needs}
 use Rattle.crc32.proofs.rows.fill.Statement.{statement}
 use Rattle.crc32.proofs.rows.fill.Tie as tie
@@ -17,35 +18,13 @@ abbrev μ-loop : tie.MeasureT-loop
 loop-holds : tie.Need-loop-holds Inv-loop μ-loop
 loop-holds c = (search needs, rows-start (search needs))
 
-cast-before : tie.Need-cast-before Inv-loop μ-loop
-cast-before c = search needs
-
-mul-before : tie.Need-mul-before Inv-loop μ-loop
-mul-before c = search needs
-
-element-copy-out-before : tie.Need-element-copy-out-before Inv-loop μ-loop
-element-copy-out-before c = search needs
-
-step-requires : tie.Need-step-requires Inv-loop μ-loop
-step-requires c κs = search needs
-
-mul-rows : tie.Need-mul-rows Inv-loop μ-loop
-mul-rows c = search needs
-
-element-write-rows : tie.Need-element-write-rows Inv-loop μ-loop
-element-write-rows c = search needs
-
-add-k : tie.Need-add-k Inv-loop μ-loop
-add-k c = search needs
-
-loop-less : tie.Need-loop-less Inv-loop μ-loop
-loop-less c = search needs
-
 loop-again : tie.Need-loop-again Inv-loop μ-loop
 loop-again c =
-    let l = c .before .before .before .loop in
+    let b3 = c .before .before .before in
+    let l = b3 .loop in
     let x = c .before .if1 .before in
-    let before = ⊎-elim (λ w. before-first (l .k) x (search needs) (search needs)) (λ w. before-later (l .rows) (l .k) x (l .inv .1) (search needs) (search needs)) (c .before .if1 .came) in
+    let before = ⊎-elim (λ w. before-first (l .k) x (search needs) (search needs))
+    (λ w. before-later (l .rows) (l .k) x (l .inv .1) (search needs) (search needs)) (c .before .if1 .came) in
     (search needs, rows-step (l .rows) (l .k) x _ (search needs) (l .inv .1) before (c .step .ensures))
 
 returns : tie.Need-returns Inv-loop μ-loop
@@ -54,17 +33,5 @@ returns c = let l = c .before .loop in let e : l .k ≡ 4096 = omega (arith, l .
 pub fill-spec : {M : Type 1} → statement M
 fill-spec =
     tie.close
-    (tie.spec
-    Inv-loop
-    μ-loop
-    loop-holds
-    cast-before
-    mul-before
-    element-copy-out-before
-    step-requires
-    mul-rows
-    element-write-rows
-    add-k
-    loop-less
-    loop-again
-    returns)
+    (tie.spec Inv-loop μ-loop loop-holds (λ c. search needs) (λ c. search needs) (λ c. search needs) (λ c κs. search needs) (λ c. search needs)
+    (λ c. search needs) (λ c. search needs) (λ c. search needs) loop-again returns)

@@ -1,7 +1,7 @@
 -- `over` meets its contract: the words that are left, from here on, lead to the sums of them all.
 use Prim.Native.Nat.{_-_}
 use lib.ListN.{length}
-use Rattle.evtx_list.specs.Sums.{SummingWords, words-start, words-on, words-end}
+use Rattle.evtx_list.proofs.Sums.{SummingWords, words-start, words-on, words-end}
 use borrow.Author.Needs.{needs}
 use Rattle.evtx_list.proofs.streams.sums.over.Statement.{statement}
 use Rattle.evtx_list.proofs.streams.sums.over.Tie as tie
@@ -23,17 +23,5 @@ returns c =
 pub over-spec : {M : Type 1} → statement M
 over-spec =
     tie.close
-    (tie.spec
-    Inv-loop
-    μ-loop
-    (λ c. words-start)
-    (λ c. search needs)
-    (λ c κs. search needs)
-    (λ c κs. search needs)
-    (λ c. search needs)
-    (λ c. search needs)
-    loop-again
-    (λ c κs. search needs)
-    (λ c κs. search needs)
-    (λ c κs. search needs)
-    returns)
+    (tie.spec Inv-loop μ-loop (λ c. words-start) (λ c. search needs) (λ c κs. search needs) (λ c κs. search needs) (λ c. search needs) (λ c. search needs)
+    loop-again (λ c κs. search needs) (λ c κs. search needs) (λ c κs. search needs) returns)

@@ -1,5 +1,5 @@
 -- `with` meets its contract: two additions modulo 2^64.
-use Rattle.evtx_list.specs.Sums.{with-number}
+use Rattle.evtx_list.proofs.Sums.{with-number}
 use borrow.Author.Needs.{needs}
 use Rattle.evtx_list.proofs.streams.sums.with.Statement.{statement}
 use Rattle.evtx_list.proofs.streams.sums.with.Tie as tie

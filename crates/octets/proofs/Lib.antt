@@ -1,0 +1,5 @@
+-- The laws that the proofs of this crate, and of the crates above it, go by.
+pub mod Split
+pub mod Widths
+pub mod Comparing
+pub mod Numbers

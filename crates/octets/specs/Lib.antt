@@ -1,4 +1,0 @@
-pub mod Split
-pub mod Widths
-pub mod Comparing
-pub mod Numbers

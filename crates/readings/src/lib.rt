@@ -1,0 +1,1 @@
+// The laws of readings of a stretch stand in specs/. This crate has no code.
