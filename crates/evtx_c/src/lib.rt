@@ -48,7 +48,7 @@ fn answer_of(number: u32) -> EvtxAnswer
 }
 
 // The answer of a search.
-fn counted(found: record::SearchAnswer) -> EvtxAnswer
+fn search_answer(found: search::SearchAnswer) -> EvtxAnswer
     ensures { λ r. ⌜ (r .number ≡ found .number) × (r .length ≡ found .count) ⌝ }
 {
     EvtxAnswer {
@@ -92,7 +92,7 @@ pub extern "C" fn evtx_search_chunk(chunk: &[u8], offsets: &mut [u32]) -> EvtxAn
     ensures { λ r. ⌜ Answered (searchChunk (now (chunk .entry)) (length (now (offsets .entry)))) (now (offsets .entry)) (now (offsets .exit)) (r .number)
         (r .length) ⌝ }
 {
-    counted(record::search_chunk(chunk, offsets))
+    search_answer(search::search_chunk(chunk, offsets))
 }
 
 // Lists the records of loose bytes.
@@ -101,7 +101,7 @@ pub extern "C" fn evtx_search_bytes(bytes: &[u8], offsets: &mut [u32]) -> EvtxAn
     ensures { λ r. ⌜ Answered (searchBytes (now (bytes .entry)) (length (now (offsets .entry)))) (now (offsets .entry)) (now (offsets .exit)) (r .number)
         (r .length) ⌝ }
 {
-    counted(record::search_bytes(bytes, offsets))
+    search_answer(search::search_bytes(bytes, offsets))
 }
 
 // The next record of a chunk.
