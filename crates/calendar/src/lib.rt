@@ -115,11 +115,11 @@ fn date_of(d: u64) -> Date
 fn put_marked(out: &mut [u8], at: usize, mark: u8, k: u8, a: u64, b: u64, c: u64) -> usize
     ensures { λ r. ⌜ Wrote (now (out .entry)) at (padded k a ++ (mark ∷ []) ++ padded 2 b ++ (mark ∷ []) ++ padded 2 c) (now (out .exit)) r ⌝ }
 {
-    let first = numeral::put_padded(out, at, k, a);
+    let first = digits::put_padded(out, at, k, a);
     let second = output::put(out, first, mark);
-    let third = numeral::put_padded(out, second, 2, b);
+    let third = digits::put_padded(out, second, 2, b);
     let fourth = output::put(out, third, mark);
-    numeral::put_padded(out, fourth, 2, c)
+    digits::put_padded(out, fourth, 2, c)
 }
 
 // `YYYY-MM-DDThh:mm:ss.`, k digits of a fraction, `Z`
@@ -130,7 +130,7 @@ fn put_time(out: &mut [u8], at: usize, d: Date, t: Clock, k: u8, fraction: u64) 
     let b = output::put(out, a, b'T');
     let c = put_marked(out, b, b':', 2, t.hour, t.minute, t.second);
     let e = output::put(out, c, b'.');
-    let f = numeral::put_padded(out, e, k, fraction);
+    let f = digits::put_padded(out, e, k, fraction);
     output::put(out, f, b'Z')
 }
 

@@ -7,16 +7,12 @@ use lib.ListN.{length, take}
 use Rattle.rules.specs.Numerals.{allHex}
 use Rattle.numeral.proofs.Integers.{width-most}
 use native.Mathlib.Omega.{arith}
-use Rattle.numeral.proofs.Digits.{base-10, base-16}
 use borrow.Author.Needs.{needs}
 use Rattle.numeral.proofs.put_all_hex.Statement.{statement}
 use Rattle.numeral.proofs.put_all_hex.Tie as tie
 
-mul-put-last : tie.Need-mul-put-last
-mul-put-last c = omega (arith, c .width .ensures, width-most (now (c .before .before .before .before .before .before .before .before .before .args .src)))
-
-put-last-requires : tie.Need-put-last-requires
-put-last-requires c κs = search (needs, base-10, base-16)
+mul-put-lower-hex : tie.Need-mul-put-lower-hex
+mul-put-lower-hex c = omega (arith, c .width .ensures, width-most (now (c .before .before .before .before .before .before .before .before .before .args .src)))
 
 returns : tie.Need-returns
 unfolding allHex
@@ -25,10 +21,10 @@ returns c =
     let b13 = b8 .before .before .before .before .before in
     let s = take 8 (now (b13 .args .src)) in
     let w : 2 * b4 .width .result ≡ length s + length s = omega (arith, b4 .width .ensures) in
-    wrote-more (search needs) (b8 .put-text .ensures) (rw (w, b3 .number-of .ensures) at (c .before .before .put-last .ensures))
+    wrote-more (search needs) (b8 .put-text .ensures) (rw (w, b3 .number-of .ensures) at (c .before .before .put-lower-hex .ensures))
 
 pub put-all-hex-spec : {M : Type 1} → statement M
 put-all-hex-spec =
     tie.close
-    (tie.spec (λ c. search needs) (λ c κs. search needs) (λ c κs. search needs) mul-put-last (λ c κs. search needs) put-last-requires (λ c. search needs)
-    returns)
+    (tie.spec (λ c. search needs) (λ c κs. search needs) (λ c κs. search needs) mul-put-lower-hex (λ c κs. search needs) (λ c κs. search needs)
+    (λ c. search needs) returns)

@@ -3,7 +3,7 @@ use Prim.Native.Nat.{_/_, _%_}
 use Rattle.output.proofs.Output.{wrote-more}
 use Rattle.laws.specs.Tables.{tabled-at}
 use Rattle.rules.specs.Numerals.{upper}
-use Rattle.numeral.proofs.Digits.{byte-pair}
+use Rattle.numeral.proofs.Pairs.{byte-pair}
 use native.Mathlib.Omega.{arith}
 use borrow.Author.Needs.{needs}
 use Rattle.numeral.proofs.put_pair.Statement.{statement}

@@ -7,7 +7,7 @@ use Rattle.output.specs.Output.{adv}
 use Rattle.output.proofs.Output.{wrote-past}
 use Rattle.output.proofs.Loops.{Left, left-start, each-step, each-end}
 use Rattle.rules.specs.Numerals.{upperHex, hexPairs}
-use Rattle.numeral.proofs.Digits.{pairs-length}
+use Rattle.numeral.proofs.Pairs.{pairs-length}
 use borrow.Author.Needs.{needs}
 use Rattle.numeral.proofs.put_pairs.Statement.{statement}
 use Rattle.numeral.proofs.put_pairs.Tie as tie

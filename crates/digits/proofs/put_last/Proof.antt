@@ -1,9 +1,9 @@
 -- `put_last` meets its contract: past the end the digits are only counted.
-use Rattle.numeral.specs.Digits.{cased}
-use Rattle.numeral.proofs.Backwards.{last-past}
+use Rattle.digits.specs.Digits.{cased}
+use Rattle.digits.proofs.Backwards.{last-past}
 use borrow.Author.Needs.{needs}
-use Rattle.numeral.proofs.put_last.Statement.{statement}
-use Rattle.numeral.proofs.put_last.Tie as tie
+use Rattle.digits.proofs.put_last.Statement.{statement}
+use Rattle.digits.proofs.put_last.Tie as tie
 
 returns : tie.Need-returns
 returns c =

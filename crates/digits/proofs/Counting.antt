@@ -6,8 +6,8 @@ use Prim.Native.Nat.{ℕ, suc, _+_, _*_, _-_, _/_, _^_, _≤_, _<_}
 use native.Mathlib.Nat.{pow-zero, pow-suc, mul-le-mul-left, div-lt-iff-lt-mul, le-div-iff-mul-le}
 use native.Mathlib.Omega.{arith}
 use Rattle.rules.specs.Numerals.{lower, digits, lastDigits}
-use Rattle.numeral.specs.Digits.{Base}
-use Rattle.numeral.proofs.Digits.{base-bounds, digits-last}
+use Rattle.digits.specs.Digits.{Base}
+use Rattle.digits.proofs.Digits.{base-bounds, digits-last}
 
 -- n has k digits or more: power is the least number of k digits
 pub record Counting (base n power k : ℕ) : Type 0 where

@@ -3,10 +3,10 @@ use mathlib.Core.Path.{_≡_}
 use mathlib.Core.Bool.{Bool, true, false}
 use Prim.Native.Nat.{ℕ, _+_, _<_}
 use borrow.Author.Tests.{lt-ltb, le-ltb}
-use Rattle.numeral.specs.Digits.{cased}
+use Rattle.digits.specs.Digits.{cased}
 use borrow.Author.Needs.{needs}
-use Rattle.numeral.proofs.digit.Statement.{statement}
-use Rattle.numeral.proofs.digit.Tie as tie
+use Rattle.digits.proofs.digit.Statement.{statement}
+use Rattle.digits.proofs.digit.Tie as tie
 
 -- up to 9 the two cases are one
 low : (upper : Bool) (d : ℕ) → d < 10 → 48 + d ≡ cased upper d

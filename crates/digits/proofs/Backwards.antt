@@ -10,7 +10,7 @@ use lib.Seq.{sets, set-comm}
 use Rattle.output.specs.Output.{Wrote, emit, adv}
 use Rattle.output.proofs.Output.{adv-fits, wrote-past}
 use Rattle.rules.specs.Numerals.{lastDigits}
-use Rattle.numeral.proofs.Digits.{last-length}
+use Rattle.digits.proofs.Digits.{last-length}
 
 pub last-past : (digit : ℕ → ℕ) (base k n : ℕ) (out : List ℕ) (at r : ℕ) → length out ≤ at → r ≡ adv (length out) at k
     → Wrote out at (lastDigits digit base k n) out r

@@ -1,7 +1,7 @@
 -- `put_digits` meets its contract: as many of the last digits as there are.
 use borrow.Author.Needs.{needs}
-use Rattle.numeral.proofs.put_digits.Statement.{statement}
-use Rattle.numeral.proofs.put_digits.Tie as tie
+use Rattle.digits.proofs.put_digits.Statement.{statement}
+use Rattle.digits.proofs.put_digits.Tie as tie
 
 returns : tie.Need-returns
 returns c = rw (c .before .before .before .count .ensures) (c .before .before .put-last .ensures)

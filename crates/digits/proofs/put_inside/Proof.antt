@@ -1,11 +1,11 @@
 -- `put_inside` meets its contract: a digit is what the quotient leaves. The measure is the place, which goes down to `at`.
 use native.Mathlib.Omega.{arith}
 use borrow.Author.Needs.{needs}
-use Rattle.numeral.specs.Digits.{cased}
-use Rattle.numeral.proofs.Digits.{remainder}
-use Rattle.numeral.proofs.Backwards.{Backwards, back-start, back-step, back-end}
-use Rattle.numeral.proofs.put_inside.Statement.{statement}
-use Rattle.numeral.proofs.put_inside.Tie as tie
+use Rattle.digits.specs.Digits.{cased}
+use Rattle.digits.proofs.Digits.{remainder}
+use Rattle.digits.proofs.Backwards.{Backwards, back-start, back-step, back-end}
+use Rattle.digits.proofs.put_inside.Statement.{statement}
+use Rattle.digits.proofs.put_inside.Tie as tie
 
 abbrev Inv-loop : tie.InvT-loop
 Inv-loop out₀ at upper base k n i₀ left₀ out i left = Backwards (cased upper) base k n out₀ at out i left

@@ -1,26 +1,28 @@
--- Laws of the digits of rules.Numerals, once over the base: how many digits a number has, and digits of either case.
+-- Laws of the digits of rules.Numerals, once over the base: the last digit, and how many digits a number has.
 --     digits-low, digits-high : below the base one digit; else those of the quotient, and then that of the remainder
 --     digits-last : so they are the last digits, as many as the powers of the base say
 use mathlib.Core.Path.{_≡_, refl, ap, sym, _∙_}
-use mathlib.Core.Bool.{Bool, true, false}
-use mathlib.Core.List.{List, [], _∷_, _++_, append-assoc}
+use mathlib.Core.Bool.{Bool, true, false, _||_}
+use mathlib.Core.List.{[], _∷_, _++_, append-assoc}
 use mathlib.Core.Logic.{_⊎_, inl, inr}
 use Prim.Native.Nat.{ℕ, zero, suc, _*_, _-_, _/_, _%_, _^_, _≤_, _<_}
 use native.Mathlib.Nat.{div-lt-self, div-mul-le-self, mod-lt, mod-eq-sub-div-mul, pow-suc, pow-zero, one-mul, one-le-pow, mod-eq-of-lt, div-lt-iff-lt-mul}
 use native.Mathlib.Nat.{mul-le-mul-right, le-div-iff-mul-le}
 use native.Mathlib.Omega.{arith}
 use borrow.Author.Tests.{ltb-true, ltb-false, lt-ltb, le-ltb}
-use lib.Dec.{ltb}
+use lib.Dec.{T, ltb, eqb, eqb→eq}
 use lib.ListN.{length, length-append}
 use Rattle.rules.specs.Bytes.{Text}
-use Rattle.rules.specs.Numerals.{lower, upper, digits, lastDigits, upperHex, hexPairs}
-use Rattle.numeral.specs.Digits.{Base}
+use Rattle.rules.specs.Numerals.{lower, digits, lastDigits}
+use Rattle.digits.specs.Digits.{Base}
 
-pub base-10 : Base 10
-base-10 = inl refl
-
-pub base-16 : Base 16
-base-16 = inr refl
+-- a base that a call writes out is told by the test, whichever of the two it is
+pub base-is : {base : ℕ} → T (eqb base 10 || eqb base 16) → Base base
+base-is {base} t = go (eqb base 10) refl t
+  where
+    go : (b : Bool) → eqb base 10 ≡ b → T (b || eqb base 16) → Base base
+    go true e t = inl (eqb→eq base 10 (rw e tt))
+    go false e t = inr (eqb→eq base 16 t)
 
 pub base-bounds : {base : ℕ} → Base base → (10 ≤ base) × (base ≤ 16)
 base-bounds (inl e) = (omega arith, omega arith)
@@ -102,13 +104,3 @@ pub last-length : (digit : ℕ → ℕ) (base k n : ℕ) → length (lastDigits 
 unfolding lastDigits
 last-length digit base zero n = refl
 last-length digit base (suc k) n = rw length-append (omega (arith, last-length digit base k (n / base)))
-
--- a byte has two hex digits
-pub byte-pair : (b : ℕ) → b < 256 → upperHex 2 b ≡ upper (b / 16) ∷ upper (b % 16) ∷ []
-unfolding lastDigits
-byte-pair b h = let e : b / 16 % 16 ≡ b / 16 = omega arith in rw e
-
-pub pairs-length : (b : List ℕ) → length (hexPairs b) ≡ 2 * length b
-unfolding hexPairs lastDigits
-pairs-length [] = refl
-pairs-length (x ∷ b) = omega (arith, pairs-length b)

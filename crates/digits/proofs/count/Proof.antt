@@ -2,9 +2,9 @@
 use Prim.Native.Nat.{_+_, _-_}
 use native.Mathlib.Omega.{arith}
 use borrow.Author.Needs.{needs}
-use Rattle.numeral.proofs.Counting.{Counting, count-start, next-inside, next-larger, count-step, count-end}
-use Rattle.numeral.proofs.count.Statement.{statement}
-use Rattle.numeral.proofs.count.Tie as tie
+use Rattle.digits.proofs.Counting.{Counting, count-start, next-inside, next-larger, count-step, count-end}
+use Rattle.digits.proofs.count.Statement.{statement}
+use Rattle.digits.proofs.count.Tie as tie
 
 abbrev Inv-loop : tie.InvT-loop
 Inv-loop base n most power₀ k₀ power k = Counting base n power k

@@ -3,18 +3,18 @@ use mathlib.Core.Path.{_≡_, refl}
 use Prim.Native.Nat.{suc, _-_, _/_, ℕ, _<_}
 use Rattle.output.proofs.Output.{wrote-nil, wrote-more}
 use Rattle.rules.specs.Numerals.{lastDigits}
-use Rattle.numeral.proofs.Digits.{base-bounds, remainder}
+use Rattle.digits.proofs.Digits.{base-bounds, remainder}
 use borrow.Author.Needs.{needs}
 use native.Mathlib.Omega.{arith}
 use borrow.Fn.Kinds.{In}
 use borrow.Fn.PlainCycle.{Measures, is, falls, and}
-use Rattle.numeral.proofs.put_cut.Reads as put-cut
-use Rattle.numeral.proofs.put_cut.Kinds as put-cut-kinds
-use Rattle.numeral.proofs.+put_cut.Lts-put_cut as put-cut-lts
-use Rattle.numeral.proofs.digit.Reads as digit-reads
+use Rattle.digits.proofs.put_cut.Reads as put-cut
+use Rattle.digits.proofs.put_cut.Kinds as put-cut-kinds
+use Rattle.digits.proofs.+put_cut.Lts-put_cut as put-cut-lts
+use Rattle.digits.proofs.digit.Reads as digit-reads
 use Rattle.output.proofs.put.Reads as put-reads
-use Rattle.numeral.proofs.+put_cut.{statement}
-use Rattle.numeral.proofs.+put_cut.Tie.{close}
+use Rattle.digits.proofs.+put_cut.{statement}
+use Rattle.digits.proofs.+put_cut.Tie.{close}
 
 abbrev μ-put-cut : Measures 1 put-cut-kinds.ps ℕ
 μ-put-cut κs a = a .1 .1 .1 .1 .0

@@ -1,7 +1,7 @@
 -- `divided` meets its contract: the base is one of the two.
 use mathlib.Core.Logic.{⊎-elim}
-use Rattle.numeral.proofs.divided.Statement.{statement}
-use Rattle.numeral.proofs.divided.Tie as tie
+use Rattle.digits.proofs.divided.Statement.{statement}
+use Rattle.digits.proofs.divided.Tie as tie
 
 returns : tie.Need-returns
 returns c = rw (c .if1 .taken)
