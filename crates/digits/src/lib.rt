@@ -1,9 +1,9 @@
 // The digits of a number as text, once over the base and the count of digits.
 ghost use mathlib.Core.Path.{_≡_};
-ghost use mathlib.Core.List.{[]};
-ghost use Prim.Native.Nat.{_+_, _/_, _≤_, _<_};
-ghost use lib.ListN.{length};
+ghost use mathlib.Core.List.{[], _++_};
+ghost use Prim.Native.Nat.{_/_, _<_};
 ghost use Rattle.output.specs.Output.{Wrote};
+ghost use Rattle.rules.specs.Bytes.{ascii};
 ghost use Rattle.rules.specs.Numerals.{lower, digits, decimal, shortHex, lastDigits, padded, upperHex};
 ghost use Rattle.digits.specs.Digits.{Base, cased};
 
@@ -47,35 +47,7 @@ fn count(base: u64, n: u64) -> usize
     k
 }
 
-// The last k digits, all of which fit, from the last one backwards.
-fn put_inside(out: &mut [u8], at: usize, upper: bool, base: u64, k: usize, n: u64) -> usize
-    requires { ⌜ Base base × (at + k ≤ length (now out)) ⌝ }
-    ensures { λ r. ⌜ Wrote (now (out .entry)) at (lastDigits (cased upper) base k n) (now (out .exit)) r ⌝ }
-{
-    let mut i = at + k;
-    let mut left = n;
-    while at < i {
-        i -= 1;
-        let before = divided(base, left);
-        out[i] = digit(upper, left - before * base);
-        left = before;
-    }
-    at + k
-}
-
-// The last k digits, as far as they fit, from the first one on.
-fn put_cut(out: &mut [u8], at: usize, upper: bool, base: u64, k: usize, n: u64) -> usize
-    requires { ⌜ Base base ⌝ }
-    ensures { λ r. ⌜ Wrote (now (out .entry)) at (lastDigits (cased upper) base k n) (now (out .exit)) r ⌝ }
-{
-    if k == 0 {
-        return at;
-    }
-    let place = put_cut(out, at, upper, base, k - 1, n / base);
-    output::put(out, place, digit(upper, n % base))
-}
-
-// The last k digits.
+// The last k digits, from the last one backwards. Those that do not fit are only counted.
 fn put_last(out: &mut [u8], at: usize, upper: bool, base: u64, k: usize, n: u64) -> usize
     requires { ⌜ Base base ⌝ }
     ensures { λ r. ⌜ Wrote (now (out .entry)) at (lastDigits (cased upper) base k n) (now (out .exit)) r ⌝ }
@@ -83,32 +55,26 @@ fn put_last(out: &mut [u8], at: usize, upper: bool, base: u64, k: usize, n: u64)
     if out.len() <= at {
         return output::skip(out.len(), at, k);
     }
-    if k <= out.len() - at {
-        return put_inside(out, at, upper, base, k, n);
+    let room = out.len() - at;
+    let mut i = k;
+    let mut left = n;
+    while 0 < i {
+        i -= 1;
+        let before = divided(base, left);
+        let d = digit(upper, left - before * base);
+        if i < room {
+            out[at + i] = d;
+        }
+        left = before;
     }
-    put_cut(out, at, upper, base, k, n)
+    output::skip(out.len(), at, k)
 }
 
-// As few digits as there can be.
-fn put_digits(out: &mut [u8], at: usize, base: u64, n: u64) -> usize
-    requires { ⌜ Base base ⌝ }
-    ensures { λ r. ⌜ Wrote (now (out .entry)) at (digits base n n []) (now (out .exit)) r ⌝ }
-{
-    put_last(out, at, false, base, count(base, n), n)
-}
-
+// As few decimal digits as there can be.
 pub fn put_decimal(out: &mut [u8], at: usize, n: u64) -> usize
     ensures { λ r. ⌜ Wrote (now (out .entry)) at (decimal n) (now (out .exit)) r ⌝ }
 {
-    put_digits(out, at, 10, n)
-}
-
-// `0x` and shortest lower-case hex.
-pub fn put_short_hex(out: &mut [u8], at: usize, n: u64) -> usize
-    ensures { λ r. ⌜ Wrote (now (out .entry)) at (shortHex n) (now (out .exit)) r ⌝ }
-{
-    let place = output::put_text(out, at, b"0x");
-    put_digits(out, place, 16, n)
+    put_last(out, at, false, 10, count(10, n), n)
 }
 
 // k decimal digits.
@@ -118,16 +84,24 @@ pub fn put_padded(out: &mut [u8], at: usize, k: u8, n: u64) -> usize
     put_last(out, at, false, 10, k as usize, n)
 }
 
-// k lower-case hex digits.
-pub fn put_lower_hex(out: &mut [u8], at: usize, k: usize, n: u64) -> usize
-    ensures { λ r. ⌜ Wrote (now (out .entry)) at (lastDigits lower 16 k n) (now (out .exit)) r ⌝ }
-{
-    put_last(out, at, false, 16, k, n)
-}
-
 // k upper-case hex digits.
 pub fn put_upper_hex(out: &mut [u8], at: usize, k: u8, n: u64) -> usize
     ensures { λ r. ⌜ Wrote (now (out .entry)) at (upperHex k n) (now (out .exit)) r ⌝ }
 {
     put_last(out, at, true, 16, k as usize, n)
+}
+
+// `0x` and k lower-case hex digits.
+pub fn put_hex(out: &mut [u8], at: usize, k: usize, n: u64) -> usize
+    ensures { λ r. ⌜ Wrote (now (out .entry)) at (ascii "0x" ++ lastDigits lower 16 k n) (now (out .exit)) r ⌝ }
+{
+    let place = output::put_text(out, at, b"0x");
+    put_last(out, place, false, 16, k, n)
+}
+
+// `0x` and as few lower-case hex digits as there can be.
+pub fn put_short_hex(out: &mut [u8], at: usize, n: u64) -> usize
+    ensures { λ r. ⌜ Wrote (now (out .entry)) at (shortHex n) (now (out .exit)) r ⌝ }
+{
+    put_hex(out, at, count(16, n), n)
 }

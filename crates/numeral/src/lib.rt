@@ -59,8 +59,7 @@ pub fn put_signed(out: &mut [u8], at: usize, src: &[u8]) -> usize
 pub fn put_all_hex(out: &mut [u8], at: usize, src: &[u8]) -> usize
     ensures { λ r. ⌜ Wrote (now (out .entry)) at (allHex (take 8 (now (src .entry)))) (now (out .exit)) r ⌝ }
 {
-    let place = output::put_text(out, at, b"0x");
-    digits::put_lower_hex(out, place, 2 * width(src), number_of(src))
+    digits::put_hex(out, at, 2 * width(src), number_of(src))
 }
 
 // A byte as two hex digits, out of the table of upper-case ones.
@@ -68,7 +67,7 @@ fn put_pair(out: &mut [u8], at: usize, table: &[u8; 16], b: u8) -> usize
     requires { ⌜ now table ≡ tabled upper 16 ⌝ }
     ensures { λ r. ⌜ Wrote (now (out .entry)) at (upperHex 2 b) (now (out .exit)) r ⌝ }
 {
-    let n = octets::wide(b) as usize;
+    let n = b as usize;
     let place = output::put(out, at, table[n / 16]);
     output::put(out, place, table[n % 16])
 }

@@ -1,5 +1,4 @@
 -- `put_all_hex` meets its contract: two digits a byte.
-use Rattle.output.proofs.Output.{wrote-more}
 use mathlib.Core.Path.{_≡_}
 use Prim.Native.Nat.{_+_, _*_}
 use denote.Ref.{now}
@@ -11,20 +10,16 @@ use borrow.Author.Needs.{needs}
 use Rattle.numeral.proofs.put_all_hex.Statement.{statement}
 use Rattle.numeral.proofs.put_all_hex.Tie as tie
 
-mul-put-lower-hex : tie.Need-mul-put-lower-hex
-mul-put-lower-hex c = omega (arith, c .width .ensures, width-most (now (c .before .before .before .before .before .before .before .before .before .args .src)))
+mul-put-hex : tie.Need-mul-put-hex
+mul-put-hex c = omega (arith, c .width .ensures, width-most (now (c .before .before .before .before .args .src)))
 
 returns : tie.Need-returns
 unfolding allHex
 returns c =
-    let b3 = c .before .before .before in let b4 = b3 .before in let b8 = b4 .before .before .before .before in
-    let b13 = b8 .before .before .before .before .before in
-    let s = take 8 (now (b13 .args .src)) in
+    let b3 = c .before .before .before in let b4 = b3 .before in
+    let s = take 8 (now (b4 .before .before .before .before .args .src)) in
     let w : 2 * b4 .width .result ≡ length s + length s = omega (arith, b4 .width .ensures) in
-    wrote-more (search needs) (b8 .put-text .ensures) (rw (w, b3 .number-of .ensures) at (c .before .before .put-lower-hex .ensures))
+    rw (w, b3 .number-of .ensures) at (c .before .before .put-hex .ensures)
 
 pub put-all-hex-spec : {M : Type 1} → statement M
-put-all-hex-spec =
-    tie.close
-    (tie.spec (λ c. search needs) (λ c κs. search needs) (λ c κs. search needs) mul-put-lower-hex (λ c κs. search needs) (λ c κs. search needs)
-    (λ c. search needs) returns)
+put-all-hex-spec = tie.close (tie.spec (λ c κs. search needs) mul-put-hex (λ c κs. search needs) (λ c κs. search needs) (λ c. search needs) returns)
