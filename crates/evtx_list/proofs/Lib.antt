@@ -1,5 +1,4 @@
 -- The laws that the proofs of this crate, and of the crates above it, go by.
-pub mod Sums
 pub mod Serving
 pub mod StillToCome
 pub mod Whole

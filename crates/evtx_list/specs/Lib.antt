@@ -1,4 +1,3 @@
-pub mod Sums
 pub mod Streams
 pub mod State
 pub mod Whole

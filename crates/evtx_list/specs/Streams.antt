@@ -3,10 +3,10 @@
 --     after : the streams after some events
 use mathlib.Core.Bool.{Bool}
 use mathlib.Core.List.{List, [], _∷_}
-use Prim.Native.Nat.{ℕ}
-use lib.ListN.{replicate}
+use Prim.Native.Nat.{ℕ, _+_}
+use lib.ListN.{replicate, getD, set}
 use Rattle.rules.specs.Bytes.{if_then_else_}
-use Rattle.evtx_list.specs.Sums.{summedAt}
+use Rattle.fletcher.specs.Sums.{withNumber, summed}
 
 -- What is asked of the operating system: a read with room for n bytes, with the bytes that were taken from it; and a write, with the bytes
 -- that were handed to it and whether it was done.
@@ -22,6 +22,12 @@ Streams = List ℕ
 -- nothing has been read or written
 abbrev pub nothing : Streams
 nothing = replicate 4 0
+
+-- numbers of which two, at a place, are sums, when some more bytes and then a number have gone into them
+abbrev pub summedAt : List ℕ → ℕ → List ℕ → ℕ → List ℕ
+summedAt numbers at bytes last =
+    let s = withNumber (summed (record { first = getD numbers at 0; second = getD numbers (at + 1) 0 }) bytes) last in
+    set (set numbers at (s .first)) (at + 1) (s .second)
 
 -- what a write answered, as a number
 abbrev pub mark : Bool → ℕ

@@ -1,10 +1,10 @@
 -- `over` meets its contract: the words that are left, from here on, lead to the sums of them all.
 use Prim.Native.Nat.{_-_}
 use lib.ListN.{length}
-use Rattle.evtx_list.proofs.Sums.{SummingWords, words-start, words-on, words-end}
+use Rattle.fletcher.proofs.Words.{SummingWords, words-start, words-on, words-end}
 use borrow.Author.Needs.{needs}
-use Rattle.evtx_list.proofs.streams.sums.over.Statement.{statement}
-use Rattle.evtx_list.proofs.streams.sums.over.Tie as tie
+use Rattle.fletcher.proofs.over.Statement.{statement}
+use Rattle.fletcher.proofs.over.Tie as tie
 
 abbrev Inv-loop : tie.InvT-loop
 Inv-loop bytes s₀ i₀ s i = SummingWords s₀ bytes i s

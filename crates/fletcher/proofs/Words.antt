@@ -5,8 +5,8 @@ use Prim.Native.Nat.{ℕ, suc, _+_, _-_, _/_, _%_, _^_, _≤_, _<_}
 use native.Mathlib.Omega.{arith}
 use lib.ListN.{length}
 use Rattle.rules.specs.Bytes.{numberAt}
-use Rattle.evtx_list.specs.declared.streams.sums.Sums.{Sums}
-use Rattle.evtx_list.specs.Sums.{withNumber, overWords, summed}
+use Rattle.fletcher.specs.declared.Sums.{Sums}
+use Rattle.fletcher.specs.Sums.{withNumber, overWords, summed}
 
 -- two additions modulo 2^64 give the sums after one more number
 pub with-number : (s : Sums) (n : ℕ) {a b : ℕ} → a ≡ (s .first + n) % 2 ^ 64 → b ≡ (s .second + a) % 2 ^ 64

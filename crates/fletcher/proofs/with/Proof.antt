@@ -1,8 +1,8 @@
 -- `with` meets its contract: two additions modulo 2^64.
-use Rattle.evtx_list.proofs.Sums.{with-number}
+use Rattle.fletcher.proofs.Words.{with-number}
 use borrow.Author.Needs.{needs}
-use Rattle.evtx_list.proofs.streams.sums.with.Statement.{statement}
-use Rattle.evtx_list.proofs.streams.sums.with.Tie as tie
+use Rattle.fletcher.proofs.with.Statement.{statement}
+use Rattle.fletcher.proofs.with.Tie as tie
 
 returns : tie.Need-returns
 returns c = with-number (c .before .before .args .sums) _ (c .before .wrapping-add-u64 .ensures) (c .wrapping-add-u642 .ensures)

@@ -1,11 +1,11 @@
 -- Fletcher's checksum of bytes, over words of 64 bits.
 --     withNumber : the two sums after one more number
---     summed : the sums after some more bytes; summedAt : the same of sums that stand in a list, and a number more
+--     summed : the sums after some more bytes
 use mathlib.Core.List.{List}
 use Prim.Native.Nat.{ℕ, zero, suc, _+_, _-_, _/_, _%_, _^_}
-use lib.ListN.{length, getD, set}
+use lib.ListN.{length}
 use Rattle.rules.specs.Bytes.{numberAt}
-use Rattle.evtx_list.specs.declared.streams.sums.Sums.{Sums}
+use Rattle.fletcher.specs.declared.Sums.{Sums}
 
 -- one number more goes into the first sum, and the first sum into the second, modulo 2^64
 abbrev pub withNumber : Sums → ℕ → Sums
@@ -21,9 +21,3 @@ unfoldable pub summed : Sums → List ℕ → Sums
 summed s bytes =
     let n = length bytes in
     withNumber (withNumber (overWords (n / 8) 0 bytes s) (numberAt (n - n % 8) 8 bytes)) n
-
--- numbers of which two, at a place, are sums, when some more bytes and then a number have gone into them
-abbrev pub summedAt : List ℕ → ℕ → List ℕ → ℕ → List ℕ
-summedAt numbers at bytes last =
-    let s = withNumber (summed (record { first = getD numbers at 0; second = getD numbers (at + 1) 0 }) bytes) last in
-    set (set numbers at (s .first)) (at + 1) (s .second)
