@@ -2,8 +2,8 @@
 use borrow.Author.Tests.{lt-leb, ne-eqb}
 use borrow.Author.Needs.{needs}
 use native.Mathlib.Omega.{arith}
-use Rattle.utf16.proofs.control.Statement.{statement}
-use Rattle.utf16.proofs.control.Tie as tie
+use Rattle.character.proofs.control.Statement.{statement}
+use Rattle.character.proofs.control.Tie as tie
 
 returns-4 : tie.Need-returns-4
 returns-4 c =

@@ -1,9 +1,9 @@
 -- `put_shown` meets its contract: the eight escapes, and else the character of XML or U+FFFD.
 use Rattle.rules.specs.Strings.{escapes, shown}
-use Rattle.utf16.proofs.Shown.{not-escaped}
+use Rattle.character.proofs.Escapes.{not-escaped}
 use borrow.Author.Needs.{needs}
-use Rattle.utf16.proofs.put_shown.Statement.{statement}
-use Rattle.utf16.proofs.put_shown.Tie as tie
+use Rattle.character.proofs.put_shown.Statement.{statement}
+use Rattle.character.proofs.put_shown.Tie as tie
 
 returns-9 : tie.Need-returns-9
 returns-9 c =

@@ -1,8 +1,8 @@
 -- `put_three` meets its contract: three bytes in a row.
 use Rattle.output.proofs.Output.{row, _&_}
 use borrow.Author.Needs.{needs}
-use Rattle.utf16.proofs.put_three.Statement.{statement}
-use Rattle.utf16.proofs.put_three.Tie as tie
+use Rattle.character.proofs.put_three.Statement.{statement}
+use Rattle.character.proofs.put_three.Tie as tie
 
 returns : tie.Need-returns
 returns c =

@@ -4,8 +4,8 @@ use borrow.Author.Tests.{lt-ltb, le-ltb}
 use Rattle.rules.specs.Strings.{utf8}
 use native.Mathlib.Omega.{arith}
 use borrow.Author.Needs.{needs}
-use Rattle.utf16.proofs.put_utf8.Statement.{statement}
-use Rattle.utf16.proofs.put_utf8.Tie as tie
+use Rattle.character.proofs.put_utf8.Statement.{statement}
+use Rattle.character.proofs.put_utf8.Tie as tie
 
 returns : tie.Need-returns
 unfolding utf8

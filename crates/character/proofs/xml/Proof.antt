@@ -5,11 +5,11 @@ use Prim.Native.Nat.{ℕ, _<_}
 use borrow.Author.Tests.{le-leb, lt-leb}
 use lib.Dec.{leb}
 use Rattle.rules.specs.Strings.{isXml}
-use Rattle.utf16.proofs.Shown.{above}
+use Rattle.character.proofs.Escapes.{above}
 use native.Mathlib.Omega.{arith}
 use borrow.Author.Needs.{needs}
-use Rattle.utf16.proofs.xml.Statement.{statement}
-use Rattle.utf16.proofs.xml.Tie as tie
+use Rattle.character.proofs.xml.Statement.{statement}
+use Rattle.character.proofs.xml.Tie as tie
 
 -- past the second range only the third decides
 past : (c : ℕ) → 0xfffd < c → isXml c ≡ (leb 0x1_0000 c && leb c 0x10_ffff)
@@ -33,10 +33,11 @@ returns-5 : tie.Need-returns-5
 returns-5 c = (rw (past _ (c .before .if4 .left), lt-leb 0x1_0000 _ (c .if5 .taken)), search needs)
 
 returns-6 : tie.Need-returns-6
-returns-6 c =
-    let last = le-leb (c .before .before .before .before .before .args .c) 0x10_ffff (search needs) in
-    (rw (past _ (c .before .if4 .left), le-leb 0x1_0000 _ (c .if5 .left), last), search needs)
+returns-6 c = (rw (past _ (c .before .before .if4 .left), le-leb 0x1_0000 _ (c .before .if5 .left), le-leb _ 0x10_ffff (c .if6 .taken)), search needs)
+
+returns-7 : tie.Need-returns-7
+returns-7 c = (rw (past _ (c .before .before .if4 .left), le-leb 0x1_0000 _ (c .before .if5 .left), lt-leb _ 0x10_ffff (c .if6 .left)), search needs)
 
 pub xml-spec : {M : Type 1} → statement M
 xml-spec =
-    tie.close (tie.spec (λ c κs. search needs) (λ c. search needs) returns-2 returns-3 returns-4 returns-5 returns-6)
+    tie.close (tie.spec (λ c κs. search needs) (λ c. search needs) returns-2 returns-3 returns-4 returns-5 returns-6 returns-7)
