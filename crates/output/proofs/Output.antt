@@ -1,6 +1,6 @@
 -- Laws of text that is written into memory that may be too small.
 --     wrote-more : one text and then another are the two as one
---     row room & v & w & .. : any number of texts in a row
+--     in-turn room & v & w & .. : any number of texts in turn
 --     emit-fits : text that fits stands in its place, with what was there before it and after it
 use mathlib.Core.Path.{_≡_, refl, ap, _∙_, sym}
 use mathlib.Core.Bool.{Bool, true, false}
@@ -110,16 +110,16 @@ wrote-more {out} {out′} {out″} {at} {at′} {at″} {s} {t} room v w =
       count = w .count ∙ rw (wrote-length v, v .count, length-append s t) (adv-more (length out) at (length s) (length t));
     }
 
--- any number of texts in a row: `row room`, and `&` before each `Wrote`; `wrote` of the whole says that their join was written
-pub record Row (out : List ℕ) (at : ℕ) (text out′ : List ℕ) (at′ : ℕ) : Type 0 where
+-- any number of texts in turn: `in-turn room`, and `&` before each `Wrote`; `wrote` of the whole says that their join was written
+pub record InTurn (out : List ℕ) (at : ℕ) (text out′ : List ℕ) (at′ : ℕ) : Type 0 where
   pub room : length out < 2 ^ 63
   pub wrote : Wrote out at text out′ at′
 
-pub row : {out : List ℕ} {at : ℕ} → length out * 1 < 2 ^ 63 → Row out at [] out at
-row {out} {at} room = record { room = omega arith; wrote = wrote-nil out at }
+pub in-turn : {out : List ℕ} {at : ℕ} → length out * 1 < 2 ^ 63 → InTurn out at [] out at
+in-turn {out} {at} room = record { room = omega arith; wrote = wrote-nil out at }
 
 infixl 20 _&_
-pub _&_ : {out out′ out″ s t : List ℕ} {at at′ at″ : ℕ} → Row out at s out′ at′ → Wrote out′ at′ t out″ at″ → Row out at (s ++ t) out″ at″
+pub _&_ : {out out′ out″ s t : List ℕ} {at at′ at″ : ℕ} → InTurn out at s out′ at′ → Wrote out′ at′ t out″ at″ → InTurn out at (s ++ t) out″ at″
 r & w = record { room = r .room; wrote = wrote-more (r .room) (r .wrote) w }
 
 -- a byte that fits, and text that starts past the end

@@ -1,5 +1,5 @@
--- `put_marked` meets its contract: its five parts in a row.
-use Rattle.output.proofs.Output.{row, _&_}
+-- `put_marked` meets its contract: its five parts in turn.
+use Rattle.output.proofs.Output.{in-turn, _&_}
 use borrow.Author.Needs.{needs}
 use Rattle.calendar.proofs.put_marked.Statement.{statement}
 use Rattle.calendar.proofs.put_marked.Tie as tie
@@ -8,7 +8,7 @@ returns : tie.Need-returns
 returns c =
     let b6 = c .before .before .before .before .before .before in let b10 = b6 .before .before .before .before in
     let b14 = b10 .before .before .before .before in let b18 = b14 .before .before .before .before in
-    (row (search needs) & b18 .put-padded .ensures & b14 .put .ensures & b10 .put-padded2 .ensures & b6 .put2 .ensures
+    (in-turn (search needs) & b18 .put-padded .ensures & b14 .put .ensures & b10 .put-padded2 .ensures & b6 .put2 .ensures
     & c .before .before .put-padded3 .ensures) .wrote
 
 pub put-marked-spec : {M : Type 1} → statement M
