@@ -10,6 +10,14 @@ ghost use Rattle.rules.specs.Strings.{allShown, stringText};
 ghost use Rattle.utf16.specs.Carry.{unlessHigh, completed, leftOver, carryOf, Carried};
 ghost use Rattle.utf16.specs.Shown.{PlainlyIf, plainTable};
 
+// A unit of ASCII as its one byte.
+fn one_byte(u: u32) -> u8
+    requires { ⌜ u < 128 ⌝ }
+    ensures { λ r. ⌜ r ≡ u ⌝ }
+{
+    u as u8
+}
+
 fn unit(src: &[u8], i: usize) -> u32
     requires { ⌜ i + 1 < length (now src) ⌝ }
     ensures { λ r. ⌜ (r ≡ getD (now (src .entry)) i 0 + 256 * getD (now (src .entry)) (i + 1) 0) × (r < 65536) ⌝ }
@@ -107,10 +115,9 @@ pub fn put_string(out: &mut [u8], at: usize, src: &[u8]) -> usize
     let mut i = 0;
     while i + 1 < src.len() {
         let u = unit(src, i);
-        let low = src[i];
         i += 2;
         if plain(table, carry, u) {
-            place = output::put(out, place, low);
+            place = output::put(out, place, one_byte(u));
             continue;
         }
         place = put_unit(out, place, carry, u);
