@@ -1,0 +1,152 @@
+// What the program asks of the system beside the reads and the writes of a listing: its arguments, files by their names, and the lines that
+// it says of itself.
+use libc::STDERR_FILENO;
+use libc::STDIN_FILENO;
+use libc::STDOUT_FILENO;
+ghost use Rattle.io.specs.Counts.{Counts};
+
+// An input that can be read, by its descriptor; or it cannot, which was told.
+pub(crate) enum Opened {
+    At { input: u64 },
+    Not,
+}
+
+// How many arguments there are, the program's own name among them.
+pub(crate) fn argument_count() -> usize {
+    os::arg_count()
+}
+
+// Puts an argument at the front of the memory and answers its length; 0 where it does not fit, and then the memory has its first bytes.
+pub(crate) fn argument(i: usize, memory: &mut [u8]) -> usize
+    ensures { λ r. ⌜ Counts r (now (memory .exit)) ⌝ }
+{
+    os::arg(i, memory)
+}
+
+// Whether the argument that was asked for last does not fit in the memory.
+pub(crate) fn is_too_long() -> bool {
+    os::errno() == libc::ENAMETOOLONG
+}
+
+// Whether the argument that was asked for last is whole in the memory. Where it is not, that is told.
+pub(crate) fn is_whole() -> bool {
+    if os::errno() != 0 {
+        os::fail(b"evtx_list: an argument");
+        return false;
+    }
+    true
+}
+
+// Whether someone would have to type a log.
+pub(crate) fn is_terminal() -> bool {
+    libc::isatty(STDIN_FILENO) == 1
+}
+
+// Says on standard error what the system gave as the reason that a name cannot be listed.
+fn tell(name: &[u8]) {
+    io::write_all(STDERR_FILENO, b"evtx_list: ");
+    os::fail(name);
+}
+
+// Whether there is a descriptor, and it can be read, which is asked by a read of no bytes: a directory, and an input that is closed, are no
+// empty log.
+fn can_read(descriptor: i32) -> bool {
+    let mut none = [0u8; 0];
+    if descriptor < 0 {
+        return false;
+    }
+    libc::read(descriptor, &mut none) == 0
+}
+
+fn opened_at(descriptor: i32) -> Opened {
+    if descriptor < 0 {
+        return Opened::Not;
+    }
+    let input = descriptor as u64;
+    Opened::At { input }
+}
+
+// The input with a descriptor. Where it cannot be read, that is told.
+fn input_of(descriptor: i32, name: &[u8]) -> Opened {
+    if !can_read(descriptor) {
+        tell(name);
+        return Opened::Not;
+    }
+    opened_at(descriptor)
+}
+
+pub(crate) fn standard_input(name: &[u8]) -> Opened {
+    input_of(STDIN_FILENO, name)
+}
+
+// Opens a file to be read.
+pub(crate) fn open(name: &[u8]) -> Opened {
+    let descriptor = os::open_read(name);
+    match input_of(descriptor, name) {
+        Opened::At { input } => Opened::At { input },
+        Opened::Not => {
+            libc::close(descriptor);
+            Opened::Not
+        }
+    }
+}
+
+// Closes a file that was opened.
+pub(crate) fn close(opened: Opened) {
+    match opened {
+        Opened::Not => (),
+        Opened::At { input } => {
+            if input < 2147483648 {
+                libc::close(input as i32);
+            }
+        }
+    }
+}
+
+// Writes a line or more to standard output, which is not part of a listing, and answers whether that was done.
+fn say(text: &[u8]) -> bool {
+    let done = io::write_all(STDOUT_FILENO, text);
+    if !done {
+        os::fail(b"evtx_list: standard output");
+    }
+    done
+}
+
+// The line above the listing of one file among several.
+pub(crate) fn head(name: &[u8]) -> bool {
+    if !say(name) {
+        return false;
+    }
+    say(b":\n")
+}
+
+pub(crate) fn usage() {
+    io::write_all(
+        STDERR_FILENO,
+        b"usage: evtx_list [--help | --version | FILE..]\n",
+    );
+}
+
+pub(crate) fn version() {
+    say(b"evtx_list 0.2.0\n");
+}
+
+pub(crate) fn help() {
+    say(
+        b"\
+usage: evtx_list [--help | --version | FILE..]
+
+Lists Windows XML event logs (EVTX): a line for the file header, one for each
+chunk, and one for each record, with its offset in the chunk, its number, and
+its text or the number of its refusal.
+
+  FILE       a log; - is standard input, which is also listed without a FILE
+  --help     writes this help
+  --version  writes the version
+
+Where there are several, the listing of each begins with the line FILE: .
+What cannot be read or written is told on standard error. The manual page
+evtx_list(1) says what the numbers mean.
+",
+    );
+}
