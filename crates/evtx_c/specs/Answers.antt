@@ -11,6 +11,11 @@ use Rattle.evtx_c.specs.declared.EvtxFields.{EvtxFields}
 abbrev pub checked : ℕ → EvtxAnswer
 checked n = record { number = n; length = 0 }
 
+-- the size of a record
+abbrev pub sizeIn : Outcome ℕ → EvtxAnswer
+sizeIn (value n) = record { number = 0; length = n }
+sizeIn (refused n p) = record { number = n; length = 0 }
+
 abbrev pub foundOf : Outcome ℕ → EvtxFound
 foundOf (value s) = record { number = 0; offset = s }
 foundOf (refused n p) = record { number = n; offset = 0 }

@@ -2,11 +2,13 @@
 ghost use mathlib.Core.Path.{_≡_};
 ghost use lib.ListN.{length};
 ghost use Rattle.rules.specs.Answers.{Answered};
-ghost use Rattle.rules.specs.Headers.{checkFileHeader, checkChunk};
-ghost use Rattle.rules.specs.Records.{searchChunk, searchBytes, nextInChunk, nextInBytes, stretchOf, fieldsOf};
+ghost use Rattle.rules.specs.Headers.{checkFileHeader, checkChunk, freeSpaceOf};
+ghost use Rattle.rules.specs.Records.{searchChunk, searchBytes, nextInChunk, nextInBytes, sizeInChunk, sizeInBytes, stretchOf, fieldsOf};
 ghost use Rattle.rules.specs.RecordText.{textOf};
-ghost use Rattle.record.specs.Asked.{nextMeaning};
-ghost use Rattle.evtx_c.specs.Answers.{checked, foundOf, stretchIn, fieldsIn};
+ghost use Rattle.record.specs.Asked.{nextMeaning, sizeMeaning};
+ghost use Rattle.binxml.specs.Text.{wholeText};
+ghost use Rattle.evtx.specs.Texts.{Counted};
+ghost use Rattle.evtx_c.specs.Answers.{checked, sizeIn, foundOf, stretchIn, fieldsIn};
 
 #[repr(C)]
 pub struct EvtxAnswer {
@@ -70,6 +72,19 @@ fn found_at(next: record::Next) -> EvtxFound
     }
 }
 
+// The answer that tells the size of a record.
+fn size_answer(size: record::Size) -> EvtxAnswer
+    ensures { λ r. ⌜ r ≡ sizeIn (sizeMeaning size) ⌝ }
+{
+    match size {
+        record::Size::Is { size } => EvtxAnswer {
+            number: 0,
+            length: size as u64,
+        },
+        record::Size::Refused { number } => EvtxAnswer { number, length: 0 },
+    }
+}
+
 // Checks a file header.
 #[no_mangle]
 pub extern "C" fn evtx_check_file_header(header: &[u8]) -> EvtxAnswer
@@ -84,6 +99,17 @@ pub extern "C" fn evtx_check_chunk(chunk: &[u8]) -> EvtxAnswer
     ensures { λ r. ⌜ r ≡ checked (checkChunk (now (chunk .entry))) ⌝ }
 {
     answer_of(header::check_chunk(chunk))
+}
+
+// Where a chunk says that its free space begins.
+#[no_mangle]
+pub extern "C" fn evtx_free_space_offset(chunk: &[u8]) -> EvtxFound
+    ensures { λ r. ⌜ r ≡ foundOf (freeSpaceOf (now (chunk .entry))) ⌝ }
+{
+    match header::free_space(chunk) {
+        header::Free::From { offset } => EvtxFound { number: 0, offset },
+        header::Free::Refused { number } => EvtxFound { number, offset: 0 },
+    }
 }
 
 // Lists the records of a chunk.
@@ -118,6 +144,22 @@ pub extern "C" fn evtx_next_in_bytes(bytes: &[u8], from: u64) -> EvtxFound
     ensures { λ r. ⌜ r ≡ foundOf (nextInBytes (now (bytes .entry)) from) ⌝ }
 {
     found_at(record::next_in_bytes(bytes, from as usize))
+}
+
+// The size of a record of a chunk.
+#[no_mangle]
+pub extern "C" fn evtx_size_in_chunk(chunk: &[u8], offset: u64) -> EvtxAnswer
+    ensures { λ r. ⌜ r ≡ sizeIn (sizeInChunk (now (chunk .entry)) offset) ⌝ }
+{
+    size_answer(record::size_in_chunk(chunk, offset as usize))
+}
+
+// The size of a record of loose bytes.
+#[no_mangle]
+pub extern "C" fn evtx_size_in_bytes(bytes: &[u8], offset: u64) -> EvtxAnswer
+    ensures { λ r. ⌜ r ≡ sizeIn (sizeInBytes (now (bytes .entry)) offset) ⌝ }
+{
+    size_answer(record::size_in_bytes(bytes, offset as usize))
 }
 
 // Where a record's binary XML lies.
@@ -177,4 +219,12 @@ pub extern "C" fn evtx_record_text(chunk: &[u8], offset: u64, out: &mut [u8]) ->
     ensures { λ r. ⌜ Answered (textOf (now (chunk .entry)) offset (length (now (out .entry)))) (now (out .entry)) (now (out .exit)) (r .number) (r .length) ⌝ }
 {
     told(evtx::record_text(chunk, offset as usize, out))
+}
+
+// How long the text of a record is.
+#[no_mangle]
+pub extern "C" fn evtx_text_length(chunk: &[u8], offset: u64) -> EvtxText
+    ensures { λ r. ⌜ Counted (wholeText (now (chunk .entry)) offset) (r .number) (r .length) ⌝ }
+{
+    told(evtx::text_length(chunk, offset as usize))
 }
