@@ -4,7 +4,7 @@ MINUTES ?= 0
 SEED ?=
 PREFIX ?= /usr/local
 DESTDIR ?=
-VERSION = 0.1.0
+VERSION = 0.2.0
 
 program = target/bin/evtx_list
 archive = target/staticlib/libevtx_c.a

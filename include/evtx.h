@@ -15,11 +15,15 @@
  *   11  value type not supported there, or its size or content wrong
  *   12  over a depth or count limit
  *   13  output room too small
- * A refused call answers its number and zeros, and leaves all memory as it was.
+ * A refused call answers its number and zeros, and leaves all memory as it was. enum evtx_number has a name for each number, and
+ * evtx_message a sentence.
  *
  * Memory. A call reads the bytes that it is lent and nothing else, and writes only to `offsets` or `out`. No call keeps a pointer. The buffers
  * of one call must not overlap. A pointer must not be null, also where its length is 0: then it may point to anything, and nothing is
  * read or written. An input may have any length and any content.
+ *
+ * Room. EVTX_MOST_RECORDS_OF_CHUNK entries are enough for evtx_search_chunk, and EVTX_MOST_RECORDS_OF_BYTES for evtx_search_bytes: with
+ * them neither answers 13. For a text no room is always enough: whoever is answered 13 asks evtx_text_length.
  *
  * Offsets are counted from the first byte of the chunk, or of the bytes, that the call is lent.
  *
@@ -30,9 +34,49 @@
 #include <stddef.h>
 #include <stdint.h>
 
+#define EVTX_VERSION "0.2.0"
+#define EVTX_VERSION_MAJOR 0
+#define EVTX_VERSION_MINOR 2
+#define EVTX_VERSION_PATCH 0
+
+/* How many bytes a file header has, and a chunk. */
+#define EVTX_FILE_HEADER_SIZE 4096
+#define EVTX_CHUNK_SIZE 65536
+
+/* How many loose bytes are searched at most. */
+#define EVTX_MOST_BYTES 16777216
+
+/* The most records that a search lists: of a chunk, and of EVTX_MOST_BYTES loose bytes. */
+#define EVTX_MOST_RECORDS_OF_CHUNK 2322
+#define EVTX_MOST_RECORDS_OF_BYTES 599186
+
+/* With it the compiler warns where a pointer is a null that it can see. */
+#if defined(__GNUC__)
+#define EVTX_NONNULL __attribute__((nonnull))
+#else
+#define EVTX_NONNULL
+#endif
+
 #ifdef __cplusplus
 extern "C" {
 #endif
+
+enum evtx_number {
+    EVTX_DONE = 0,
+    EVTX_WRONG_LENGTH,
+    EVTX_WRONG_MAGIC,
+    EVTX_WRONG_VERSION,
+    EVTX_WRONG_FIELD,
+    EVTX_WRONG_HEADER_CHECKSUM,
+    EVTX_WRONG_DATA_CHECKSUM,
+    EVTX_NO_RECORD,
+    EVTX_MALFORMED,
+    EVTX_LEAVES_CHUNK,
+    EVTX_NO_SUCH_VALUE,
+    EVTX_WRONG_VALUE,
+    EVTX_OVER_LIMIT,
+    EVTX_ROOM_TOO_SMALL = 13
+};
 
 /* length is a count of what the call says; 0 in a refusal */
 typedef struct {
@@ -65,43 +109,102 @@ typedef struct {
 
 /* Checks a file header. Answers 0, or 1 to 5 for the first test that fails: length, magic, version, fixed fields, checksum.
  * length is 0. */
-evtx_answer evtx_check_file_header(const uint8_t *header, size_t header_len);
+evtx_answer evtx_check_file_header(const uint8_t *header, size_t header_len) EVTX_NONNULL;
 
 /* Checks a chunk. Answers 0, or 1, 2, 4, 5 or 6 for the first test that fails: length, magic, fixed fields, header checksum, record
  * data checksum. length is 0. */
-evtx_answer evtx_check_chunk(const uint8_t *chunk, size_t chunk_len);
+evtx_answer evtx_check_chunk(const uint8_t *chunk, size_t chunk_len) EVTX_NONNULL;
+
+/* Where the free space of a chunk begins, as its header says: the number in the four bytes at 48. Answers 0 with that offset, whatever the
+ * chunk holds, or 1. It means something where evtx_check_chunk answers 0: then it is 512 to 65,536, and evtx_list lists the records that
+ * end there or before. */
+evtx_found evtx_free_space_offset(const uint8_t *chunk, size_t chunk_len) EVTX_NONNULL;
 
 /* Lists the offsets of the whole records of a chunk, from 512 on, in rising order. The chunk's header is not looked at.
- * room counts the entries of `offsets`; 2,322 entries are always enough. Answers 0 with the count of records: their offsets stand at
- * the front of `offsets`, and the rest of it is as it was. Answers 1, or 13 if there are more records than entries: `offsets` is as it
- * was. */
-evtx_answer evtx_search_chunk(const uint8_t *chunk, size_t chunk_len, uint32_t *offsets, size_t room);
+ * room counts the entries of `offsets`; EVTX_MOST_RECORDS_OF_CHUNK (2,322) are always enough. Answers 0 with the count of records: their
+ * offsets stand at the front of `offsets`, and the rest of it is as it was. Answers 1, or 13 if there are more records than entries:
+ * `offsets` is as it was. */
+evtx_answer evtx_search_chunk(const uint8_t *chunk, size_t chunk_len, uint32_t *offsets, size_t room) EVTX_NONNULL;
 
-/* The same for loose bytes of any origin, up to 16,777,216 of them, from 0 on; 599,186 entries are always enough. Answers 0, 1 or 13. */
-evtx_answer evtx_search_bytes(const uint8_t *bytes, size_t bytes_len, uint32_t *offsets, size_t room);
+/* The same for loose bytes of any origin, up to 16,777,216 of them, from 0 on; EVTX_MOST_RECORDS_OF_BYTES (599,186) entries are always
+ * enough. Answers 0, 1 or 13. */
+evtx_answer evtx_search_bytes(const uint8_t *bytes, size_t bytes_len, uint32_t *offsets, size_t room) EVTX_NONNULL;
 
 /* The lowest whole record of a chunk at or after `from`, listed by the search or not; from 512 on if `from` is below it. Answers 0 with
  * its offset, 1, or 7 if none stands there. */
-evtx_found evtx_next_in_chunk(const uint8_t *chunk, size_t chunk_len, uint64_t from);
+evtx_found evtx_next_in_chunk(const uint8_t *chunk, size_t chunk_len, uint64_t from) EVTX_NONNULL;
 
 /* The same in loose bytes, up to 16,777,216 of them. Answers 0, 1 or 7. */
-evtx_found evtx_next_in_bytes(const uint8_t *bytes, size_t bytes_len, uint64_t from);
+evtx_found evtx_next_in_bytes(const uint8_t *bytes, size_t bytes_len, uint64_t from) EVTX_NONNULL;
+
+/* The size of the whole record at `offset` of a chunk: the record is chunk + offset, length bytes. Answers 0; 1; or 7 if no whole record
+ * stands at `offset`, or `offset` is below 512. */
+evtx_answer evtx_size_in_chunk(const uint8_t *chunk, size_t chunk_len, uint64_t offset) EVTX_NONNULL;
+
+/* The same in loose bytes, up to 16,777,216 of them, from 0 on. Answers 0; 1; or 7 if no whole record stands at `offset`. */
+evtx_answer evtx_size_in_bytes(const uint8_t *bytes, size_t bytes_len, uint64_t offset) EVTX_NONNULL;
 
 /* Where the binary XML of the record at `offset` lies in the chunk: it is chunk + offset, length bytes, of the answer. Answers 0; 1; or 7
  * if no whole record stands at `offset`, or `offset` is below 512. Nothing of the binary XML is tested. */
-evtx_stretch evtx_record_stretch(const uint8_t *chunk, size_t chunk_len, uint64_t offset);
+evtx_stretch evtx_record_stretch(const uint8_t *chunk, size_t chunk_len, uint64_t offset) EVTX_NONNULL;
 
 /* The number and the written time (100 ns from 1601) of the record at `offset`. Answers 0, 1 or 7, as evtx_record_stretch does. */
-evtx_fields evtx_record_fields(const uint8_t *chunk, size_t chunk_len, uint64_t offset);
+evtx_fields evtx_record_fields(const uint8_t *chunk, size_t chunk_len, uint64_t offset) EVTX_NONNULL;
 
 /* The text of the record at `offset`, as XML in UTF-8, without a zero at its end. Answers 0 with its length: it stands at the front of
  * `out`, and the rest of `out` is as it was. Answers 1; 7 if no whole record stands at `offset`, or `offset` is below 512; the number of
  * the first refusal, 8 to 12, in the order of reading; or 13 exactly if all else succeeds and the text is longer than `room`: `out` is as
  * it was. The chunk's header is not looked at. */
-evtx_text evtx_record_text(const uint8_t *chunk, size_t chunk_len, uint64_t offset, uint8_t *out, size_t room);
+evtx_text evtx_record_text(const uint8_t *chunk, size_t chunk_len, uint64_t offset, uint8_t *out, size_t room) EVTX_NONNULL;
+
+/* The length of the text of the record at `offset`, whatever room there is for it, so that a caller who was answered 13 can take as much.
+ * Nothing is written. Answers as evtx_record_text does, but never 13: 0 with the length, which counts on to 2^63; 1; 7; or 8 to 12. A
+ * record can be made whose text has gigabytes: look at the length before you take memory for it. */
+evtx_text evtx_text_length(const uint8_t *chunk, size_t chunk_len, uint64_t offset) EVTX_NONNULL;
+
+/* What a number means, for people to read. It answers for any number. */
+static inline const char *evtx_message(uint32_t number)
+{
+    static const char *const messages[] = {
+        "done",
+        "file header not 4,096 bytes, chunk not 65,536, or bytes to search over 16,777,216",
+        "magic wrong",
+        "version not 3.1",
+        "a fixed header field wrong",
+        "header checksum wrong",
+        "record data checksum wrong",
+        "no whole record at, or none at or after, the offset asked for",
+        "binary XML malformed",
+        "pointer leaves the chunk",
+        "substitution number not below the value count",
+        "value type not supported there, or its size or content wrong",
+        "over a depth or count limit",
+        "output room too small",
+    };
+    return number < sizeof messages / sizeof *messages ? messages[number] : "no number of this library";
+}
 
 #ifdef __cplusplus
 }
 #endif
+
+/* The library is compiled for these widths. C99 has no word to say so. */
+#if defined(__cplusplus) && __cplusplus >= 201103L
+#define EVTX_HOLDS(test) static_assert(test, #test)
+#elif !defined(__cplusplus) && defined(__STDC_VERSION__) && __STDC_VERSION__ >= 201112L
+#define EVTX_HOLDS(test) _Static_assert(test, #test)
+#endif
+#ifdef EVTX_HOLDS
+EVTX_HOLDS(sizeof(void *) == 8 && sizeof(size_t) == 8);
+EVTX_HOLDS(sizeof(evtx_answer) == 16 && offsetof(evtx_answer, number) == 0 && offsetof(evtx_answer, length) == 8);
+EVTX_HOLDS(sizeof(evtx_found) == 16 && offsetof(evtx_found, number) == 0 && offsetof(evtx_found, offset) == 8);
+EVTX_HOLDS(sizeof(evtx_stretch) == 24 && offsetof(evtx_stretch, number) == 0);
+EVTX_HOLDS(offsetof(evtx_stretch, offset) == 8 && offsetof(evtx_stretch, length) == 16);
+EVTX_HOLDS(sizeof(evtx_fields) == 24 && offsetof(evtx_fields, number) == 0);
+EVTX_HOLDS(offsetof(evtx_fields, record_number) == 8 && offsetof(evtx_fields, written_time) == 16);
+EVTX_HOLDS(sizeof(evtx_text) == 16 && offsetof(evtx_text, number) == 0 && offsetof(evtx_text, length) == 8);
+#undef EVTX_HOLDS
+#endif
+#undef EVTX_NONNULL
 
 #endif

@@ -1,11 +1,13 @@
 /* Holds the archive to include/evtx.h: where each field of each struct stands, that the library fills it there, and that every bit of a
  * parameter counts. The contracts of the calls know neither, so that a field in another place or a parameter of 32 bits would be proved.
+ * And holds the header's own numbers, version and messages to what they have to be.
  *
  *     layout              makes every check; the status is 0 exactly if all held
- *     layout --covered    writes the names of the structs, fields and calls that are checked; run.sh holds them to the header's
+ *     layout --covered    writes the names of the structs, fields, calls and numbers that are checked; run.sh holds them to the header's
  *
- * Every value that is due was worked out by hand from document 01. A struct has a row in `structs` and one for each field in `fields`; a
- * call has a row in `calls`, and the function named there tries it. */
+ * Every value that is due was worked out by hand from document 01. A struct has a row in `structs` and one for each field in `fields`, a
+ * number or another macro one in `numbers` or `versions`; a call has a row in `calls`, and the function named there tries it. VERSION_DUE
+ * is the Makefile's version, as a string. */
 #define _DEFAULT_SOURCE
 #include <inttypes.h>
 #include <stdio.h>
@@ -74,6 +76,48 @@ static void layout(void)
     }
     equal("layout", "size_t", "size", sizeof(size_t), 8);
     equal("layout", "a pointer", "size", sizeof(void *), 8);
+}
+
+/* The numbers that the header gives names to: those of the answers, and those of the layouts and the searches. */
+
+#define NUMBER(name, due) { #name, name, due }
+
+static const struct {
+    const char *name;
+    uint64_t is, due;
+} numbers[] = {
+    NUMBER(EVTX_DONE, 0),
+    NUMBER(EVTX_WRONG_LENGTH, 1),
+    NUMBER(EVTX_WRONG_MAGIC, 2),
+    NUMBER(EVTX_WRONG_VERSION, 3),
+    NUMBER(EVTX_WRONG_FIELD, 4),
+    NUMBER(EVTX_WRONG_HEADER_CHECKSUM, 5),
+    NUMBER(EVTX_WRONG_DATA_CHECKSUM, 6),
+    NUMBER(EVTX_NO_RECORD, 7),
+    NUMBER(EVTX_MALFORMED, 8),
+    NUMBER(EVTX_LEAVES_CHUNK, 9),
+    NUMBER(EVTX_NO_SUCH_VALUE, 10),
+    NUMBER(EVTX_WRONG_VALUE, 11),
+    NUMBER(EVTX_OVER_LIMIT, 12),
+    NUMBER(EVTX_ROOM_TOO_SMALL, 13),
+    NUMBER(EVTX_FILE_HEADER_SIZE, 4096),
+    NUMBER(EVTX_CHUNK_SIZE, 65536),
+    NUMBER(EVTX_MOST_BYTES, 16777216),
+    /* records of 28 bytes, in 65,024 bytes and in 16,777,216 */
+    NUMBER(EVTX_MOST_RECORDS_OF_CHUNK, 2322),
+    NUMBER(EVTX_MOST_RECORDS_OF_BYTES, 599186),
+};
+
+static const char *const versions[] = { "EVTX_VERSION", "EVTX_VERSION_MAJOR", "EVTX_VERSION_MINOR", "EVTX_VERSION_PATCH" };
+
+static void named(void)
+{
+    char spelled[64];
+    for (size_t i = 0; i < COUNT(numbers); i++)
+        equal("names", numbers[i].name, "value", numbers[i].is, numbers[i].due);
+    snprintf(spelled, sizeof spelled, "%d.%d.%d", EVTX_VERSION_MAJOR, EVTX_VERSION_MINOR, EVTX_VERSION_PATCH);
+    equal("names", "EVTX_VERSION", "it equals " VERSION_DUE, strcmp(EVTX_VERSION, VERSION_DUE) == 0, 1);
+    equal("names", "the version's three numbers", "they spell " VERSION_DUE, strcmp(spelled, VERSION_DUE) == 0, 1);
 }
 
 /* What is lent. Each is the front of a range of addresses as long as the longest length that is tried; behind the front nothing may be
@@ -239,6 +283,17 @@ static void check_chunk(const char *name)
         answer(name, "a length with one bit more", call(empty, CHUNK + BIT(b)), 1, 0);
 }
 
+static void free_space_offset(const char *name)
+{
+    evtx_found (*call)(const uint8_t *, size_t) = evtx_free_space_offset;
+    uint8_t *empty = reserve(CHUNK, CHUNK + BIT(LONGEST_BIT));
+    found(name, "zeros", call(empty, CHUNK), 0, 0);
+    put(empty + 48, 0xa1b2c3d4, 4);
+    found(name, "a value in every byte", call(empty, CHUNK), 0, 0xa1b2c3d4);
+    for (unsigned b = 0; b <= LONGEST_BIT; b++)
+        found(name, "a length with one bit more", call(empty, CHUNK + BIT(b)), 1, 0);
+}
+
 /* A search with lists of any length: as many entries as there are records, one less, and then each bit of the room. The list is looked at
  * as bytes, four for each entry. */
 static void search(const char *name, evtx_answer (*call)(const uint8_t *, size_t, uint32_t *, size_t), const uint8_t *in, size_t length,
@@ -309,6 +364,32 @@ static void next_in_bytes(const char *name)
         found(name, "a length with one bit more", call(bytes, BYTES + BIT(b), 0), 1, 0);
 }
 
+static void size_in_chunk(const char *name)
+{
+    evtx_answer (*call)(const uint8_t *, size_t, uint64_t) = evtx_size_in_chunk;
+    answer(name, "a record", call(chunk, CHUNK, SECOND), 0, 24 + STRETCH_LENGTH + 4);
+    answer(name, "the smallest record", call(chunk, CHUNK, THIRD), 0, 28);
+    answer(name, "no record", call(chunk, CHUNK, SECOND + 1), 7, 0);
+    for (unsigned b = 16; b < 64; b++)
+        answer(name, "an offset with one bit more", call(chunk, CHUNK, SECOND + BIT(b)), 7, 0);
+    for (unsigned b = 0; b <= LONGEST_BIT; b++)
+        answer(name, "a length with one bit more", call(chunk, CHUNK + BIT(b), SECOND), 1, 0);
+}
+
+static void size_in_bytes(const char *name)
+{
+    evtx_answer (*call)(const uint8_t *, size_t, uint64_t) = evtx_size_in_bytes;
+    answer(name, "the first", call(bytes, BYTES, NEAR), 0, 28);
+    answer(name, "the last", call(bytes, BYTES, FAR), 0, 28);
+    answer(name, "the last byte is missing", call(bytes, BYTES - 1, FAR), 7, 0);
+    answer(name, "no record", call(bytes, BYTES, NEAR + 1), 7, 0);
+    answer(name, "a size with values in both bytes", call(chunk, CHUNK, SECOND), 0, 24 + STRETCH_LENGTH + 4);
+    for (unsigned b = 21; b < 64; b++)
+        answer(name, "an offset with one bit more", call(bytes, BYTES, NEAR + BIT(b)), 7, 0);
+    for (unsigned b = 24; b <= LONGEST_BIT; b++)
+        answer(name, "a length with one bit more", call(bytes, BYTES + BIT(b), NEAR), 1, 0);
+}
+
 static void record_stretch(const char *name)
 {
     evtx_stretch (*call)(const uint8_t *, size_t, uint64_t) = evtx_record_stretch;
@@ -360,19 +441,50 @@ static void record_text(const char *name)
         text(name, "a length with one bit more", call(chunk, CHUNK + BIT(b), FIRST, out, TEXT), 1, 0);
 }
 
+static void text_length(const char *name)
+{
+    evtx_text (*call)(const uint8_t *, size_t, uint64_t) = evtx_text_length;
+    text(name, "a text", call(chunk, CHUNK, FIRST), 0, TEXT);
+    text(name, "no record", call(chunk, CHUNK, FIRST + 1), 7, 0);
+    text(name, "no binary XML", call(chunk, CHUNK, THIRD), 8, 0);
+    for (unsigned b = 16; b < 64; b++)
+        text(name, "an offset with one bit more", call(chunk, CHUNK, FIRST + BIT(b)), 7, 0);
+    for (unsigned b = 0; b <= LONGEST_BIT; b++)
+        text(name, "a length with one bit more", call(chunk, CHUNK + BIT(b), FIRST), 1, 0);
+}
+
+/* The header has this one whole. 14 is the first number that no call answers. */
+static void message(const char *name)
+{
+    const char *(*call)(uint32_t) = evtx_message;
+    for (uint32_t m = 0; m < 14; m++) {
+        equal(name, "a number of an answer", "it has a text", call(m)[0] != '\0', 1);
+        for (uint32_t n = m + 1; n <= 14; n++)
+            equal(name, "two numbers", "their texts differ", strcmp(call(m), call(n)) != 0, 1);
+    }
+    for (unsigned b = 4; b < 32; b++)
+        equal(name, "a number of one bit, above 13", "its text is that of 14", strcmp(call((uint32_t)BIT(b)), call(14)) == 0, 1);
+    equal(name, "the largest number", "its text is that of 14", strcmp(call(UINT32_MAX), call(14)) == 0, 1);
+}
+
 static const struct {
     const char *name;
     void (*tries)(const char *name);
 } calls[] = {
     { "evtx_check_file_header", check_file_header },
     { "evtx_check_chunk", check_chunk },
+    { "evtx_free_space_offset", free_space_offset },
     { "evtx_search_chunk", search_chunk },
     { "evtx_search_bytes", search_bytes },
     { "evtx_next_in_chunk", next_in_chunk },
     { "evtx_next_in_bytes", next_in_bytes },
+    { "evtx_size_in_chunk", size_in_chunk },
+    { "evtx_size_in_bytes", size_in_bytes },
     { "evtx_record_stretch", record_stretch },
     { "evtx_record_fields", record_fields },
     { "evtx_record_text", record_text },
+    { "evtx_text_length", text_length },
+    { "evtx_message", message },
 };
 
 static int covered(void)
@@ -383,6 +495,10 @@ static int covered(void)
         printf("field %s.%s\n", fields[i].type, fields[i].name);
     for (size_t i = 0; i < COUNT(calls); i++)
         printf("call %s\n", calls[i].name);
+    for (size_t i = 0; i < COUNT(numbers); i++)
+        printf("number %s\n", numbers[i].name);
+    for (size_t i = 0; i < COUNT(versions); i++)
+        printf("number %s\n", versions[i]);
     return 0;
 }
 
@@ -393,6 +509,7 @@ int main(int count, char **arguments)
     /* So that a line stands even if a call ends the program. */
     setvbuf(stdout, NULL, _IOLBF, BUFSIZ);
     layout();
+    named();
     lend();
     for (size_t i = 0; i < COUNT(calls); i++)
         calls[i].tries(calls[i].name);

@@ -1,6 +1,6 @@
 #!/usr/bin/env bash
-# Holds include/evtx.h to the archive that is there: layout.c, with the names of structs, fields and calls compared with the header's, so
-# that none can be added there without a check of it here.
+# Holds include/evtx.h to the archive that is there: layout.c, with the names of structs, fields, calls and numbers compared with the
+# header's, so that none can be added there without a check of it here.
 #
 #     run.sh
 #
@@ -15,39 +15,13 @@ stop() {
     exit 1
 }
 
-# The names that the header declares, in the lines of `layout --covered`. A declaration of another form than these two fails.
-declared() {
-    gcc -std=c99 -E -x c "$header" | python3 -c '
-import re, sys
-mine, text = False, ""
-for line in sys.stdin:
-    marker = re.match(r"# \d+ \"(.*?)\"", line)
-    if marker:
-        mine = marker[1] == sys.argv[1]
-    elif mine:
-        text += line
-declaration = re.compile(r"\s*(?:typedef\s+struct\s*\{([^{}]*)\}\s*(\w+)|[\w\s*]+?(\w+)\s*\([^()]*\))\s*;\s*")
-field = re.compile(r"\s*\w+\s+(\w+)\s*")
-at = 0
-while text[at:].strip():
-    found = declaration.match(text, at)
-    if not found:
-        sys.exit("no struct and no call: " + text[at:].strip()[:100])
-    fields, name, call = found.groups()
-    print("call " + call if call else "struct " + name)
-    for part in (fields or "").split(";")[:-1]:
-        named = field.fullmatch(part)
-        if not named:
-            sys.exit("no field: " + part.strip())
-        print("field " + name + "." + named[1])
-    at = found.end()
-' "$header"
-}
-
 mkdir -p "$made" || stop "$made cannot be made"
-gcc -std=c99 -Wall -Wextra -Werror -O2 -Iinclude -o "$made/layout" tests/c_layout/layout.c target/staticlib/libevtx_c.a \
-    || stop "layout.c is not built"
-declared >"$made/names" || stop "the names in $header cannot be told"
+version=$(sed -n 's/^VERSION = //p' Makefile)
+[ -n "$version" ] || stop "the Makefile has no version"
+gcc -std=c99 -Wall -Wextra -Werror -O2 -Iinclude -DVERSION_DUE="\"$version\"" -o "$made/layout" tests/c_layout/layout.c \
+    target/staticlib/libevtx_c.a || stop "layout.c is not built"
+gcc -std=c99 -E -dD -x c "$header" >"$made/preprocessed" || stop "$header cannot be read"
+python3 tests/c_layout/names.py "$header" <"$made/preprocessed" >"$made/names" || stop "the names in $header cannot be told"
 [ -s "$made/names" ] || stop "$header declares nothing"
 "$made/layout" --covered >"$made/covered" || stop "layout does not name what it covers"
 diff <(sort "$made/names") <(sort "$made/covered") || stop "the header (<) and layout.c (>) have other names"
