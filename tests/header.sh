@@ -95,11 +95,12 @@ evtx_text_length(in, 8, 0)
 CALLS
 }
 
-# Pointers of 32 bits, and structs without room between their fields. C99 cannot say what it is compiled for.
+# Pointers of 32 bits, where the structs stay as they are (-mx32), and structs without room between their fields. C99 cannot say what it is
+# compiled for.
 widths() {
-    local here='static assertion|static_assert'
-    refused "$called, 32 bits" "$here" "${compile[@]}" "-std=$1" -m32 -ffreestanding -fsyntax-only "$made/twice.c"
-    refused "$called, packed structs" "$here" "${compile[@]}" "-std=$1" -fpack-struct -fsyntax-only "$made/twice.c"
+    local why='static assertion|static_assert'
+    refused "$called, pointers of 32 bits" "$why" "${compile[@]}" "-std=$1" -mx32 -ffreestanding -fsyntax-only "$made/twice.c"
+    refused "$called, packed structs" "$why" "${compile[@]}" "-std=$1" -fpack-struct -fsyntax-only "$made/twice.c"
 }
 
 printf '#include "evtx.h"\n#include "evtx.h"\n' >"$made/twice.c"
