@@ -30,11 +30,14 @@ const FRONTS: [(usize, &str); 5] = [
     (HEADER + 1, "header ok\nrest 1\n"),
 ];
 
-/// The lines on standard error as packaging/evtx_list.1 has them. A listing is
-/// whole only if there is none.
+/// A listing is whole only if nothing stands on standard error.
 const NONE: &str = "";
-const OUTPUT_FAILED: &str = "evtx_list: standard output could not be written\n";
-const INPUT_FAILED: &str = "evtx_list: standard input could not be read to its end\n";
+
+/// The line on standard error, as packaging/evtx_list.1 has it: which stream
+/// failed, and the system's text for the reason.
+fn failed(stream: &str, reason: &str) -> String {
+    format!("evtx_list: standard {stream}: {reason}\n")
+}
 
 struct Trials {
     program: PathBuf,
@@ -119,10 +122,16 @@ impl Trials {
     /// long log, long before.
     fn failing_outputs(&mut self, log: &[u8]) -> bool {
         let short = &log[..HEADER + CHUNK];
-        for sink in [Sink::Full, Sink::Unread, Sink::Closed] {
+        let reasons = [
+            (Sink::Full, "No space left on device"),
+            (Sink::Unread, "Broken pipe"),
+            (Sink::Closed, "Bad file descriptor"),
+        ];
+        for (sink, reason) in reasons {
             for bytes in [&[], short, log] {
                 let name = "output that cannot be written";
-                let due = Due { name, bytes, lines: b"", errors: OUTPUT_FAILED };
+                let errors = &failed("output", reason);
+                let due = Due { name, bytes, lines: b"", errors };
                 if !self.hold(Source::Pipe(bytes, 1 << 20), sink, due) {
                     return false;
                 }
@@ -131,19 +140,26 @@ impl Trials {
         true
     }
 
-    /// Standard input that cannot be read, or only its front.
-    fn failing_inputs(&mut self, log: &[u8]) -> bool {
-        let name = "input that cannot be read to its end";
-        for source in [Source::Closed, Source::File(Path::new(TARGET))] {
-            let lines = b"header refused 1\n";
-            let due = Due { name, bytes: b"", lines, errors: INPUT_FAILED };
-            if !self.hold(source, Sink::Pipe, due) {
-                return false;
-            }
-        }
-        [100, HEADER, HEADER + CHUNK, HEADER + CHUNK + 5].into_iter().all(|length| {
+    /// Standard input that cannot be read: nothing is listed.
+    fn unreadable_inputs(&mut self) -> bool {
+        let reasons = [
+            (Source::Closed, "Bad file descriptor"),
+            (Source::File(Path::new(TARGET)), "Is a directory"),
+        ];
+        reasons.into_iter().all(|(source, reason)| {
+            let name = "input that cannot be read";
+            let due = Due { name, bytes: b"", lines: b"", errors: &failed("input", reason) };
+            self.hold(source, Sink::Pipe, due)
+        })
+    }
+
+    /// Standard input that breaks off: what was read is listed.
+    fn breaking_inputs(&mut self, log: &[u8]) -> bool {
+        let errors = &failed("input", "Resource temporarily unavailable");
+        [0, 100, HEADER, HEADER + CHUNK, HEADER + CHUNK + 5].into_iter().all(|length| {
+            let name = "input that cannot be read to its end";
             let bytes = &log[..length];
-            let due = Due { name, bytes, lines: &listing(bytes), errors: INPUT_FAILED };
+            let due = Due { name, bytes, lines: &listing(bytes), errors };
             self.hold(Source::Breaking(bytes), Sink::Pipe, due)
         })
     }
@@ -160,7 +176,8 @@ fn main() -> ExitCode {
     let holds = trials.long_listings(&log.bytes, &lines)
         && trials.cut_logs(&log.bytes)
         && trials.failing_outputs(&log.bytes)
-        && trials.failing_inputs(&log.bytes);
+        && trials.unreadable_inputs()
+        && trials.breaking_inputs(&log.bytes);
     if !holds {
         return ExitCode::FAILURE;
     }

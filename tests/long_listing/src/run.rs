@@ -45,7 +45,8 @@ fn command(program: &Path, from: Source, to: Sink) -> Command {
     // it could say so.
     let ignored = if let Sink::Unread = to { "trap '' PIPE;" } else { "" };
     let mut command = Command::new("timeout");
-    command.args(["--signal=KILL", SECONDS, "sh", "-c"]);
+    // The system's texts for what fails are due in English.
+    command.env("LC_ALL", "C").args(["--signal=KILL", SECONDS, "sh", "-c"]);
     command.arg(format!("{ignored} exec \"$0\" {input} {output}")).arg(program);
     command
 }
