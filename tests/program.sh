@@ -10,9 +10,8 @@ set -u
 root=$(realpath "$(dirname "$0")/..") || exit 1
 program=$(realpath -e "${1:-$root/target/bin/evtx_list}") && front=$(realpath -e "${2:-$root/packaging/evtx}") || exit 1
 cd "$root" || exit 1
-# The system's texts are due in English, and no line may depend on who calls.
+# The system's texts are due in English.
 export LC_ALL=C made=target/program_test
-unset LANGUAGE
 bin=$PWD/$made/bin
 usage='usage: evtx_list [--help | --version | FILE..]'
 closed_input='evtx_list: standard input: Bad file descriptor'
@@ -114,11 +113,12 @@ set_up() {
         command -v "$tool" >/dev/null || stop "$tool is not installed"
     done
     rm -rf "$made"
-    mkdir -p "$bin" "$made/empty" && mkfifo "$made/typed" || stop "$made cannot be made"
+    mkdir -p "$bin" && mkfifo "$made/typed" || stop "$made cannot be made"
     install -m 755 "$program" "$bin/evtx_list" && install -m 755 "$front" "$bin/evtx" || stop "the program cannot be laid beside its front"
     { cat samples/panel.evtx && for _ in {1..300}; do tail -c +4097 samples/panel.evtx; done; } >"$made/long.evtx" || stop "no long log"
     ln -s ../../samples/panel.evtx "$made/link.evtx" && ln -s loop "$made/loop" && : >"$made/empty.evtx" || stop "no links"
-    open=$(mktemp -d) || stop "no temporary folder can be made"
+    # Not where TMPDIR says: that may be a folder of root's own.
+    open=$(mktemp -d /tmp/program_test.XXXXXX) || stop "no temporary folder can be made"
     trap 'rm -rf "$open" "$made/long.evtx"' EXIT
     chmod 755 "$open" && install -m 755 "$bin"/* "$open" && install -m 644 samples/panel.evtx "$open" || stop "$open takes no files"
     install -m 000 samples/panel.evtx "$open/unreadable.evtx" || stop "$open takes no files"
@@ -182,7 +182,6 @@ refused() {
 }
 
 failures() {
-    local long
     refused nofile 'No such file or directory'
     refused '' 'No such file or directory'
     refused samples 'Is a directory'
@@ -190,9 +189,11 @@ failures() {
     refused samples/panel.evtx/x 'Not a directory'
     refused "$made/loop" 'Too many levels of symbolic links'
     refused "$(printf 'x%.0s' {1..256})" 'File name too long'
-    says 'a name of 4,096 bytes' 1 'evtx_list: an argument: File name too long' '"$@" "/$(long_path 4095)"'
-    says 'a name of 100,000 bytes' 1 'evtx_list: an argument: File name too long' '"$@" "$(long_path 99999)"'
+    # A path may have 4,095 bytes. A word of more than 4,096 is not taken in, and not repeated.
     holds 'a name of 4,095 bytes' 0 '' '"$@" "$(long_path 4095)"' <samples/panel.listing
+    says 'a name of 4,096 bytes' 1 "evtx_list: /$(long_path 4095): File name too long" '"$@" "/$(long_path 4095)"'
+    says 'a name of 4,097 bytes' 1 'evtx_list: an argument: File name too long' '"$@" "$(long_path 4097)"'
+    says 'a name of 99,999 bytes' 1 'evtx_list: an argument: File name too long' '"$@" "$(long_path 99999)"'
     says 'an unreadable file' 1 'evtx_list: unreadable.evtx: Permission denied' 'as_nobody "$@" unreadable.evtx'
     holds 'a readable file beside it' 0 '' 'as_nobody "$@" panel.evtx' <samples/panel.listing
     holds 'a file that gives an error' 1 'evtx_list: /proc/self/mem: Input/output error' '"$@" /proc/self/mem' < <(echo 'header refused 1')
@@ -210,9 +211,10 @@ names() {
     for given in 'two words' $'two\nlines' $'Br\xc3\xbccke \xe2\x82\xac' $'not UTF-8 \xff\xfe' './-x' 'ends in :' '$HOME * "' '%s%n'; do
         cp samples/panel.evtx "$made/$given"
         export given
-        holds "the name '$given'" 0 '' '"$@" "$made/$given"' <samples/panel.listing
-        holds "the name '$given' and another" 0 '' 'cd $made && "$@" "$given" empty.evtx' \
+        holds "the name ${given@Q}" 0 '' '"$@" "$made/$given"' <samples/panel.listing
+        holds "the name ${given@Q} and another" 0 '' 'cd $made && "$@" "$given" empty.evtx' \
             < <(printf '%s:\n' "$given"; cat samples/panel.listing; printf 'empty.evtx:\nheader refused 1\n')
+        rm "$made/$given"
     done
 }
 
@@ -231,11 +233,15 @@ failing_output() {
         'trap "" PIPE; "$@" $made/long.evtx | head -n 1; exit "${PIPESTATUS[0]}"' < <(echo 'header ok')
 }
 
+# The second failure comes when the first one has long been told: a front that no longer takes it would end the program.
 failing_error() {
-    holds 'closed standard error' 0 '' '"$@" samples/panel.evtx 2>&-' <samples/panel.listing
-    holds 'closed standard error, a missing file' 1 '' '"$@" nofile samples/panel.evtx 2>&-' < <(headed nofile samples/panel.evtx)
-    holds 'a full disk for standard error' 0 '' '"$@" samples/panel.evtx 2>/dev/full' <samples/panel.listing
-    holds 'a full disk for standard error, a missing file' 1 '' '"$@" nofile samples/panel.evtx 2>/dev/full' < <(headed nofile samples/panel.evtx)
+    local where late='{ sleep 0.5; cat samples/panel.evtx; } | "$@" nofile - nofile samples/windows.evtx'
+    for where in '2>&-' '2>/dev/full'; do
+        holds "$where" 0 '' "\"\$@\" samples/panel.evtx $where" <samples/panel.listing
+        says "$where, a missing file" 1 '' "\"\$@\" nofile $where"
+        holds "$where, two failures" 1 '' "$late $where" \
+            < <(headed nofile -; cat samples/panel.listing; headed nofile samples/windows.evtx)
+    done
 }
 
 # \4 is Ctrl-D. In a line that has begun it only hands over what has been typed of it; so there it takes two.
