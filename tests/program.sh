@@ -14,6 +14,7 @@ cd "$root" || exit 1
 export LC_ALL=C made=target/program_test
 bin=$PWD/$made/bin
 usage='usage: evtx_list [--help | --version | FILE..]'
+version=$(sed -n 's/^VERSION = //p' Makefile)
 closed_input='evtx_list: standard input: Bad file descriptor'
 no_space='evtx_list: standard output: No space left on device'
 checks=0
@@ -166,8 +167,8 @@ options() {
     holds '--help' 0 '' 'help_of "$@" --help' < <(printf '%s\n' "$usage" version file 'standard input')
     holds '--help after a file' 0 '' 'help_of "$@" samples/panel.evtx --help' < <(printf '%s\n' "$usage" version file 'standard input')
     holds '--help before an unknown option' 0 '' 'help_of "$@" --help -x' < <(printf '%s\n' "$usage" version file 'standard input')
-    holds '--version' 0 '' '"$@" --version' < <(echo 'evtx_list 0.2.0')
-    holds '--version after a file' 0 '' '"$@" nofile --version' < <(echo 'evtx_list 0.2.0')
+    holds '--version' 0 '' '"$@" --version' < <(echo "evtx_list $version")
+    holds '--version after a file' 0 '' '"$@" nofile --version' < <(echo "evtx_list $version")
     for word in -x --list -- --helpp --hel --versio --version= -h --help\ ; do
         says "'$word'" 1 "$usage" "\"\$@\" '$word'"
         says "'$word' after a file" 1 "$usage" "\"\$@\" samples/panel.evtx '$word'"
