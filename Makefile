@@ -1,4 +1,6 @@
 # Proving, building, installing and comparing. `make help` lists the targets: a target is listed if a ## and a sentence stand beside it.
+SHELL = bash
+.SHELLFLAGS = -o pipefail -c
 LOG ?= samples/panel.evtx
 MINUTES ?= 0
 SEED ?=
@@ -11,7 +13,27 @@ archive = target/staticlib/libevtx_c.a
 sources := crates.txt $(shell find crates -name '*.rt' -o -name '*.antt')
 root = $(DESTDIR)$(PREFIX)
 
-.PHONY: help test list install clean compare examples bench soak
+# The soname has the first part of the version: a program linked with this library runs with a later one of the same first part.
+soname = libevtx_c.so.$(firstword $(subst ., ,$(VERSION)))
+shared = target/lib/libevtx_c.so.$(VERSION)
+completions = share/bash-completion/completions
+
+# What is installed, as PLACE:MODE:SOURCE, or PLACE:link:TARGET. Both install and uninstall go by this list.
+installed = \
+	bin/evtx:755:packaging/evtx \
+	bin/evtx_list:755:$(program) \
+	include/evtx.h:644:include/evtx.h \
+	lib/libevtx_c.a:644:$(archive) \
+	lib/libevtx_c.so.$(VERSION):644:$(shared) \
+	lib/$(soname):link:libevtx_c.so.$(VERSION) \
+	lib/libevtx_c.so:link:$(soname) \
+	lib/pkgconfig/evtx.pc:644:target/evtx.pc \
+	share/man/man1/evtx.1:644:packaging/evtx.1 \
+	share/man/man1/evtx_list.1:644:packaging/evtx_list.1 \
+	$(completions)/evtx:644:packaging/evtx.bash \
+	$(completions)/evtx_list:link:evtx
+
+.PHONY: help test list install uninstall clean compare examples bench soak
 .NOTPARALLEL:
 
 help: ## says what each target does
@@ -21,7 +43,7 @@ test: ## proves every crate, tries the edits that must be refused and runs every
 	@bash .ci/run
 
 list: $(program) ## lists samples/panel.evtx, or the log named by LOG=path
-	@$(program) <"$(LOG)"
+	@$(program) "$(LOG)"
 
 compare: $(program) ## compares our listing of LOG=path with the second reader's, and with those of public readers if installed
 	@bash tests/compare_log.sh $(program) "$(LOG)"
@@ -35,25 +57,34 @@ bench: $(program) $(archive) ## measures speed and memory beside other programs 
 soak: $(program) $(archive) ## compares both readers for MINUTES=n, each time with another seed, or once with SEED=s (docs/ENDURANCE.md)
 	@bash tests/soak.sh $(MINUTES) $(SEED)
 
-install: $(program) $(archive) ## installs program, library, header, pkg-config file and man page under PREFIX (/usr/local), in DESTDIR if given
-	@install -d "$(root)/bin" "$(root)/include" "$(root)/lib/pkgconfig" "$(root)/share/man/man1"
-	@install -m 755 $(program) "$(root)/bin/evtx_list"
-	@install -m 644 $(archive) "$(root)/lib/libevtx_c.a"
-	@install -m 644 include/evtx.h "$(root)/include/evtx.h"
-	@install -m 644 packaging/evtx_list.1 "$(root)/share/man/man1/evtx_list.1"
-	@sed -e 's|@PREFIX@|$(PREFIX)|' -e 's|@VERSION@|$(VERSION)|' packaging/evtx.pc.in >"$(root)/lib/pkgconfig/evtx.pc"
-	@chmod 644 "$(root)/lib/pkgconfig/evtx.pc"
+install: $(program) $(archive) $(shared) ## installs programs, library, header, pkg-config file and man pages under PREFIX (/usr/local), in DESTDIR if given
+	@sed -e 's|@PREFIX@|$(PREFIX)|' -e 's|@VERSION@|$(VERSION)|' packaging/evtx.pc.in >target/evtx.pc
+	@bash packaging/install.sh install "$(root)" $(installed)
+
+uninstall: ## removes what make install put there, with the same PREFIX and DESTDIR, and the folders that it made, if they are empty
+	@bash packaging/install.sh uninstall "$(root)" $(installed)
 
 clean: ## removes all that was built; what was proved has to be proved again
 	@rm -rf target tests/target examples/rust/target
 
+# $(call prove,COMMAND,LOG): passes on which crates are proved, as rt says so. All that it says is in the log, whose end is shown if rt fails.
+# grep fails where it has no line to pass on, or cannot; cat takes what is left, so that rt is not ended by a closed pipe.
+define prove
+@mkdir -p target
+@echo "make: the proofs are made first, which takes some minutes the first time" >&2
+@$(1) 2>&1 | tee $(2) | { grep --line-buffered '^rt: [^ ]* proved (' >&2 || cat >/dev/null; } || { tail -n 20 $(2) >&2; exit 1; }
+@touch $@
+endef
+
 # rt proves before it builds, one crate's run at a time. It leaves a file alone whose sources have changed in nothing but their time, hence the touch.
 $(program): $(sources)
-	@mkdir -p target
-	@rt check evtx_list >target/program.log 2>&1 || { cat target/program.log >&2; exit 1; }
-	@touch $@
+	$(call prove,rt check evtx_list,target/program.log)
 
 $(archive): $(sources)
-	@mkdir -p target
-	@rt staticlib evtx_c >target/archive.log 2>&1 || { cat target/archive.log >&2; exit 1; }
-	@touch $@
+	$(call prove,rt staticlib evtx_c,target/archive.log)
+
+# -z text: the linker refuses code that is not position independent.
+$(shared): $(archive) packaging/libevtx_c.map
+	@mkdir -p target/lib
+	@gcc -shared -o $@ -Wl,-z,text -Wl,-z,defs -Wl,-soname,$(soname) -Wl,--version-script=packaging/libevtx_c.map \
+		-Wl,--whole-archive $(archive) -Wl,--no-whole-archive

@@ -1,0 +1,23 @@
+# Completion for bash, of evtx and evtx_list. It is installed under the name of each, by which bash-completion finds it.
+
+# An option, or a file.
+_evtx_list() {
+    COMPREPLY=()
+    case ${COMP_WORDS[COMP_CWORD]} in
+        -*) mapfile -t COMPREPLY < <(compgen -W '--help --version' -- "${COMP_WORDS[COMP_CWORD]}") ;;
+        *) compopt -o default ;;
+    esac
+}
+
+# A subcommand, and then what its program takes.
+_evtx() {
+    COMPREPLY=()
+    if [ "$COMP_CWORD" -eq 1 ]; then
+        mapfile -t COMPREPLY < <(compgen -W 'list help --help --version' -- "${COMP_WORDS[1]}")
+    elif [ "${COMP_WORDS[1]}" = list ]; then
+        _evtx_list
+    fi
+}
+
+complete -F _evtx evtx
+complete -F _evtx_list evtx_list
