@@ -2,22 +2,41 @@
  *
  *     list LOG
  *
- * It shows the calls in the order in which a reader of a whole log needs them: file header, chunk, search, fields, text. */
+ * It shows the calls in the order in which a reader of a whole log needs them: file header, chunk, search, size, fields, text. Exit status:
+ * 1 if something cannot be read or written, which a line on standard error tells; 2 for wrong arguments. */
+#include <errno.h>
 #include <evtx.h>
 #include <inttypes.h>
 #include <stdio.h>
+#include <stdlib.h>
+#include <string.h>
 
-/* 2,322 is the largest number of records of a chunk; so a search with this room never answers 13. */
-enum { HEADER = 4096, CHUNK = 65536, RECORDS = 2322, ROOM = 65536 };
+/* A text that needs more room is refused with 13, as by the listing program; text.c shows how to read any. */
+enum { ROOM = 65536 };
 
-static uint8_t header[HEADER];
-static uint8_t chunk[CHUNK];
-static uint32_t offsets[RECORDS];
+static uint8_t header[EVTX_FILE_HEADER_SIZE];
+static uint8_t chunk[EVTX_CHUNK_SIZE];
+static uint32_t offsets[EVTX_MOST_RECORDS_OF_CHUNK];
 static uint8_t text[ROOM];
+
+static void stop(const char *name)
+{
+    fprintf(stderr, "list: %s: %s\n", name, strerror(errno));
+    exit(1);
+}
+
+static size_t read_in(FILE *log, const char *name, uint8_t *bytes, size_t room)
+{
+    size_t length = fread(bytes, 1, room, log);
+
+    if (ferror(log))
+        stop(name);
+    return length;
+}
 
 static void print_verdict(uint32_t number)
 {
-    if (number == 0)
+    if (number == EVTX_DONE)
         puts("ok");
     else
         printf("refused %" PRIu32 "\n", number);
@@ -26,23 +45,20 @@ static void print_verdict(uint32_t number)
 /* Where a record of the chunk must end to be listed: where its free space begins, as a sound chunk says. A refused one is listed whole. */
 static uint64_t limit_of(uint32_t number)
 {
-    if (number != 0)
-        return CHUNK;
-    return (uint64_t)chunk[48] | (uint64_t)chunk[49] << 8 | (uint64_t)chunk[50] << 16 | (uint64_t)chunk[51] << 24;
+    return number == EVTX_DONE ? evtx_free_space_offset(chunk, sizeof chunk).offset : EVTX_CHUNK_SIZE;
 }
 
 static void list_record(uint32_t offset, uint64_t limit)
 {
-    evtx_stretch stretch = evtx_record_stretch(chunk, CHUNK, offset);
-    evtx_fields fields = evtx_record_fields(chunk, CHUNK, offset);
+    evtx_answer size = evtx_size_in_chunk(chunk, sizeof chunk, offset);
+    evtx_fields fields = evtx_record_fields(chunk, sizeof chunk, offset);
     evtx_text answer;
 
-    /* The last 4 bytes of a record, after its binary XML, repeat its size. */
-    if (stretch.offset + stretch.length + 4 > limit)
+    if (offset + size.length > limit)
         return;
     printf("%" PRIu32 " %" PRIu64 " ", offset, fields.record_number);
-    answer = evtx_record_text(chunk, CHUNK, offset, text, ROOM);
-    if (answer.number == 0) {
+    answer = evtx_record_text(chunk, sizeof chunk, offset, text, sizeof text);
+    if (answer.number == EVTX_DONE) {
         fwrite(text, 1, (size_t)answer.length, stdout);
         putchar('\n');
     } else {
@@ -52,27 +68,29 @@ static void list_record(uint32_t offset, uint64_t limit)
 
 static void list_chunk(uint64_t index)
 {
-    uint32_t number = evtx_check_chunk(chunk, CHUNK).number;
+    uint32_t number = evtx_check_chunk(chunk, sizeof chunk).number;
     uint64_t limit = limit_of(number);
-    uint64_t count = evtx_search_chunk(chunk, CHUNK, offsets, RECORDS).length;
+    uint64_t count = evtx_search_chunk(chunk, sizeof chunk, offsets, EVTX_MOST_RECORDS_OF_CHUNK).length;
     uint64_t i;
 
     printf("chunk %" PRIu64 " ", index);
     print_verdict(number);
-    for (i = 0; i < count; i++)
+    for (i = 0; i < count && !ferror(stdout); i++)
         list_record(offsets[i], limit);
+    if (ferror(stdout))
+        stop("standard output");
 }
 
-static void list_log(FILE *log)
+static void list_log(FILE *log, const char *name)
 {
-    size_t length = fread(header, 1, HEADER, log);
+    size_t length = read_in(log, name, header, sizeof header);
     uint64_t index = 0;
 
     printf("header ");
     print_verdict(evtx_check_file_header(header, length).number);
-    if (length < HEADER)
+    if (length < sizeof header)
         return;
-    while ((length = fread(chunk, 1, CHUNK, log)) == CHUNK)
+    while ((length = read_in(log, name, chunk, sizeof chunk)) == sizeof chunk)
         list_chunk(index++);
     if (length > 0)
         printf("rest %zu\n", length);
@@ -80,16 +98,17 @@ static void list_log(FILE *log)
 
 int main(int argc, char **argv)
 {
-    FILE *log = argc == 2 ? fopen(argv[1], "rb") : NULL;
+    FILE *log;
 
-    if (log == NULL) {
-        fprintf(stderr, "list LOG: lists a log that can be read\n");
+    if (argc != 2) {
+        fprintf(stderr, "usage: list LOG\n");
         return 2;
     }
-    list_log(log);
-    if (ferror(log) || fflush(stdout) != 0 || ferror(stdout)) {
-        fprintf(stderr, "list: reading or writing failed\n");
-        return 1;
-    }
+    log = fopen(argv[1], "rb");
+    if (log == NULL)
+        stop(argv[1]);
+    list_log(log, argv[1]);
+    if (ferror(stdout) || fflush(stdout) != 0)
+        stop("standard output");
     return 0;
 }

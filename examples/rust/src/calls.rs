@@ -42,6 +42,9 @@ extern "C" {
         offsets: *mut u32,
         room: usize,
     ) -> Answer;
+    pub fn evtx_free_space_offset(chunk: *const u8, chunk_len: usize) -> Found;
+    pub fn evtx_size_in_chunk(chunk: *const u8, chunk_len: usize, offset: u64) -> Answer;
+    pub fn evtx_size_in_bytes(bytes: *const u8, bytes_len: usize, offset: u64) -> Answer;
     pub fn evtx_next_in_chunk(chunk: *const u8, chunk_len: usize, from: u64) -> Found;
     pub fn evtx_next_in_bytes(bytes: *const u8, bytes_len: usize, from: u64) -> Found;
     pub fn evtx_record_stretch(chunk: *const u8, chunk_len: usize, offset: u64) -> Stretch;
@@ -53,4 +56,5 @@ extern "C" {
         out: *mut u8,
         room: usize,
     ) -> Answer;
+    pub fn evtx_text_length(chunk: *const u8, chunk_len: usize, offset: u64) -> Answer;
 }

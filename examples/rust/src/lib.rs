@@ -10,8 +10,12 @@ mod refusal;
 use refusal::outcome;
 pub use refusal::Refusal;
 
+/// How many bytes a file header has, and a chunk.
+pub const FILE_HEADER_SIZE: usize = 4_096;
+pub const CHUNK_SIZE: usize = 65_536;
+
 /// The room that a search of a chunk never finds too small.
-pub const RECORDS_OF_A_CHUNK: usize = 2_322;
+pub const MOST_RECORDS_OF_CHUNK: usize = 2_322;
 
 /// A record's number, and its written time in 100 ns from 1601.
 #[derive(Clone, Copy, Debug, PartialEq, Eq)]
@@ -28,6 +32,13 @@ pub fn check_file_header(header: &[u8]) -> Result<(), Refusal> {
 pub fn check_chunk(chunk: &[u8]) -> Result<(), Refusal> {
     let answer = unsafe { calls::evtx_check_chunk(chunk.as_ptr(), chunk.len()) };
     outcome(answer.number, ())
+}
+
+/// Where the free space of a chunk begins, as the chunk says. It means something
+/// where `check_chunk` finds nothing.
+pub fn free_space_offset(chunk: &[u8]) -> Result<u64, Refusal> {
+    let found = unsafe { calls::evtx_free_space_offset(chunk.as_ptr(), chunk.len()) };
+    outcome(found.number, found.offset)
 }
 
 /// The offsets of the whole records of a chunk, at the front of the list lent.
@@ -56,6 +67,18 @@ pub fn next_in_chunk(chunk: &[u8], from: u64) -> Result<u64, Refusal> {
 pub fn next_in_bytes(bytes: &[u8], from: u64) -> Result<u64, Refusal> {
     let found = unsafe { calls::evtx_next_in_bytes(bytes.as_ptr(), bytes.len(), from) };
     outcome(found.number, found.offset)
+}
+
+/// The size of the whole record at an offset of a chunk.
+pub fn size_in_chunk(chunk: &[u8], offset: u64) -> Result<u64, Refusal> {
+    let answer = unsafe { calls::evtx_size_in_chunk(chunk.as_ptr(), chunk.len(), offset) };
+    outcome(answer.number, answer.length)
+}
+
+/// The same for up to 16 MiB of bytes of any origin.
+pub fn size_in_bytes(bytes: &[u8], offset: u64) -> Result<u64, Refusal> {
+    let answer = unsafe { calls::evtx_size_in_bytes(bytes.as_ptr(), bytes.len(), offset) };
+    outcome(answer.number, answer.length)
 }
 
 /// The binary XML of a record: a part of the chunk, not a copy.
@@ -97,4 +120,10 @@ pub fn record_text<'a>(chunk: &[u8], offset: u64, out: &'a mut [u8]) -> Result<&
         answer.number,
         std::str::from_utf8(text).expect("the text is UTF-8"),
     )
+}
+
+/// The length of the text of a record, whatever room there is for it.
+pub fn text_length(chunk: &[u8], offset: u64) -> Result<u64, Refusal> {
+    let answer = unsafe { calls::evtx_text_length(chunk.as_ptr(), chunk.len(), offset) };
+    outcome(answer.number, answer.length)
 }
