@@ -1,6 +1,6 @@
 #!/usr/bin/env bash
-# Builds the examples over the archive that is there, runs them, and compares what they write with what is due. That is worked out
-# from samples/*.listing, which the second reader wrote, and by hand; never from an example.
+# Installs the library under target/, builds the examples over it, runs them, and compares what they write with what is due. That is
+# worked out from samples/*.listing, which the second reader wrote, and by hand; never from an example.
 #
 #     examples.sh
 #
@@ -8,42 +8,83 @@
 set -u
 cd "$(dirname "$0")/.." || exit 1
 made=target/examples
+installed=$PWD/$made/installed
+rust=$made/rust/release/evtx_safe
 checks=0
 failed=0
+export LD_LIBRARY_PATH=$installed/lib
+unset EVTX_LIBRARY
 
 stop() {
     echo "examples: $1" >&2
     exit 1
 }
 
-# check NAME DUE COMMAND...: the command ends with 0 and writes what stands in the file DUE.
+# check NAME DUE COMMAND..: the command ends with 0, writes what stands in the file DUE, and says nothing on standard error.
 check() {
     local name=$1 due=$2
     shift 2
     checks=$((checks + 1))
-    if ! "$@" >"$made/written"; then
+    if ! "$@" >"$made/written" 2>"$made/said"; then
+        cat "$made/said"
         echo "FAILED $name: the program failed"
     elif ! cmp "$made/written" "$due"; then
         diff -a "$made/written" "$due" | cut -c 1-200 | head -n 4
         echo "FAILED $name: other lines than are due"
+    elif [ -s "$made/said" ]; then
+        cat "$made/said"
+        echo "FAILED $name: standard error is not empty"
     else
         return
     fi
     failed=$((failed + 1))
 }
 
+# told NAME STATUS LINE COMMAND..: the command ends with STATUS, and writes nothing but LINE, to standard error; no LINE if it is empty.
+told() {
+    local name=$1 due=$2 line=$3 status
+    shift 3
+    checks=$((checks + 1))
+    "$@" >"$made/written" 2>"$made/said"
+    status=$?
+    if [ "$status" -eq "$due" ] && [ ! -s "$made/written" ] && printf '%s' "${line:+$line$'\n'}" | cmp -s - "$made/said"; then
+        return
+    fi
+    head -n 4 "$made/said"
+    echo "FAILED $name: status $status and what stands above, where $due and '$line' are due"
+    failed=$((failed + 1))
+}
+
+# Over the installed library, as pkg-config tells of it: the shared one, and the archive.
+build_c() {
+    local c="gcc -std=c99 -Wall -Wextra -Werror -O2" shared static name
+    export PKG_CONFIG_PATH=$installed/lib/pkgconfig
+    shared=$(pkg-config --cflags --libs evtx) || stop "pkg-config has no evtx"
+    static=$(pkg-config --static --cflags --libs evtx) || stop "pkg-config has no static evtx"
+    mkdir -p "$made/shared" "$made/static" || stop "$made cannot be made"
+    for name in list carve text; do
+        $c -o "$made/shared/$name" "examples/c/$name.c" $shared || stop "$name.c is not built over the shared library"
+        $c -static -o "$made/static/$name" "examples/c/$name.c" $static || stop "$name.c is not built over the archive"
+    done
+}
+
 build() {
-    local c="gcc -std=c99 -Wall -Wextra -Werror -O2" archive=target/staticlib/libevtx_c.a flags
-    mkdir -p "$made" || stop "$made cannot be made"
-    $c -Iinclude -o "$made/list" examples/c/list.c "$archive" || stop "list.c is not built"
-    $c -Iinclude -o "$made/carve" examples/c/carve.c "$archive" || stop "carve.c is not built"
-    # -z text: the linker refuses code that is not position independent.
-    gcc -shared -Wl,-z,text -o "$made/libevtx.so" -Wl,--whole-archive "$archive" -Wl,--no-whole-archive || stop "no shared object"
-    cargo build --quiet --release --offline --manifest-path examples/rust/Cargo.toml --target-dir "$made/rust" || stop "the Rust example is not built"
-    # An installed library, as pkg-config tells of it.
-    make --silent install PREFIX="$PWD/$made/installed" DESTDIR= || stop "make install failed"
-    flags=$(PKG_CONFIG_PATH=$made/installed/lib/pkgconfig pkg-config --cflags --libs evtx) || stop "pkg-config has no evtx"
-    $c -o "$made/list_installed" examples/c/list.c $flags || stop "list.c is not built over the installed library"
+    rm -rf "$installed"
+    make --silent install PREFIX="$installed" DESTDIR= || stop "make install failed"
+    build_c
+    EVTX_LIB_DIR=$installed/lib cargo build --quiet --release --offline --manifest-path examples/rust/Cargo.toml --target-dir "$made/rust" ||
+        stop "the Rust example is not built"
+}
+
+# Which library a program is linked with: the shared one has to be named in it by its soname, and the archive not at all.
+linked() {
+    local name
+    for name in list carve text; do
+        echo 1 >"$made/due"
+        check "$name is linked with the shared library" "$made/due" sh -c 'readelf -d "$0" | grep -cF "[libevtx_c.so.0]"' "$made/shared/$name"
+        echo 0 >"$made/due"
+        check "$name is linked with the archive" "$made/due" sh -c 'readelf -d "$0" | grep -cF "[libevtx_c" || true' "$made/static/$name"
+    done
 }
 
 # The Rust example's lines of a listing: records without their offset, sound headers, sound chunks and left-over bytes not at all, and
@@ -69,10 +110,26 @@ places_and_sizes() {
 }
 
 list_everywhere() {
-    check "C, $1" "$3" "$made/list" "$2"
-    check "C over the installed library, $1" "$3" "$made/list_installed" "$2"
-    check "Python, $1" "$3" python3 examples/python/list.py "$made/libevtx.so" "$2"
-    check "installed program, $1" "$3" sh -c '"$0" <"$1"' "$made/installed/bin/evtx_list" "$2"
+    check "C, $1" "$3" "$made/shared/list" "$2"
+    check "C over the archive, $1" "$3" "$made/static/list" "$2"
+    check "Python, $1" "$3" python3 examples/python/list.py "$2"
+    check "installed program, $1" "$3" sh -c '"$0" <"$1"' "$installed/bin/evtx_list" "$2"
+}
+
+carve_everywhere() {
+    check "carving, $1" "$3" "$made/shared/carve" "$2"
+    check "carving over the archive, $1" "$3" "$made/static/carve" "$2"
+}
+
+# The first and the last text of a log, one at a time.
+single_texts() {
+    local chunk offset text
+    grep -a -E '^(chunk [0-9]+ |[0-9]+ [0-9]+ <)' "$2" | awk '$1 == "chunk" { k = $2; next } { print k, $0 }' >"$made/texts"
+    while read -r chunk offset _ text; do
+        printf '%s\n' "$text" >"$made/due"
+        check "text $chunk $offset, $1" "$made/due" "$made/shared/text" "$1" "$chunk" "$offset"
+        check "text $chunk $offset over the archive, $1" "$made/due" "$made/static/text" "$1" "$chunk" "$offset"
+    done < <(sed -n -e 1p -e '$p' "$made/texts")
 }
 
 samples() {
@@ -81,10 +138,13 @@ samples() {
         listing=${log%.evtx}.listing
         list_everywhere "$log" "$log" "$listing"
         numbers_and_texts "$listing" >"$made/due"
-        check "Rust, $log" "$made/due" "$made/rust/release/evtx_safe" "$log"
+        check "Rust, $log" "$made/due" "$rust" "$log"
         places_and_sizes "$log" "$listing" >"$made/due"
-        check "carving, $log" "$made/due" "$made/carve" "$log"
+        carve_everywhere "$log" "$log" "$made/due"
+        single_texts "$log" "$listing"
     done
+    check "Python, with the library's path" samples/panel.listing env -u LD_LIBRARY_PATH EVTX_LIBRARY="$installed/lib/libevtx_c.so.0" \
+        python3 examples/python/list.py samples/panel.evtx
 }
 
 zeros() {
@@ -119,20 +179,54 @@ open(sys.argv[1], "wb").write(log)
 END
 }
 
+# Of the log that by_hand makes first.
+single_refusals() {
+    local name=$1 text=$made/shared/text
+    echo '<P>-32768</P>' >"$made/due"
+    check "text 0 512, by hand" "$made/due" "$text" "$name" 0 512
+    told "text 0 622" 1 "text: $name: binary XML malformed" "$text" "$name" 0 622
+    told "text 0 513" 1 "text: $name: no whole record at, or none at or after, the offset asked for" "$text" "$name" 0 513
+    told "text 1 512" 1 "text: $name: no such chunk" "$text" "$name" 1 512
+    told "text of no bytes" 1 "text: /dev/null: no such chunk" "$text" /dev/null 0 512
+}
+
+# The example's record with a string in place of the number: 20,000 times &, which is written as &amp;.
+long_record() {
+    printf '\x2a\x2a\0\0\xac\x9c\0\0\x01\0\0\0\0\0\0\0' && zeros 8
+    printf '\x0f\x01\x01\0\x0c\x01\0\0\0\0\x26\x02\0\0' && zeros 20
+    printf '\x22\0\0\0\x0f\x01\x01\0\x01\xff\xff\x16\0\0\0\x4d\x02\0\0\0\0\0\0\0\0\x01\0\x50\0\0\0'
+    printf '\x02\x0d\0\0\x01\x04\0\x01\0\0\0\x40\x9c\x01\0'
+    printf '&\0%.0s' $(seq 20000) && printf '\xac\x9c\0\0'
+}
+
+# A text of 100,007 bytes, for which a listing has no room.
+long_text() {
+    local log=$made/longtext.evtx due=$made/due
+    { zeros 4608 && long_record && zeros $((65536 - 512 - 40108)); } >"$log"
+    printf '%s\n' 'header refused 2' 'chunk 0 refused 2' '512 1 refused 13' >"$due"
+    list_everywhere "a long text" "$log" "$due"
+    printf '%s\n' 'header: Magic' 'chunk 0: Magic' '1 has a text of 100007 bytes' >"$due"
+    check "Rust, a long text" "$due" "$rust" "$log"
+    { printf '<P>' && printf '&amp;%.0s' $(seq 20000) && echo '</P>'; } >"$due"
+    check "text, a long text" "$due" "$made/shared/text" "$log" 0 512
+    check "text over the archive, a long text" "$due" "$made/static/text" "$log" 0 512
+}
+
 by_hand() {
-    local log=$made/hand.evtx rust=$made/rust/release/evtx_safe due=$made/due
+    local log=$made/hand.evtx due=$made/due
     { zeros 4096 && zeros 512 && example_record && small_record && zeros $((65536 - 512 - 110 - 28)) && zeros 5; } >"$log"
     printf '%s\n' 'header refused 2' 'chunk 0 refused 2' '512 1 <P>-32768</P>' '622 2 refused 8' 'rest 5' >"$due"
     list_everywhere "by hand" "$log" "$due"
     printf '%s\n' 'header: Magic' 'chunk 0: Magic' '1 <P>-32768</P>' '2 refused: Malformed' >"$due"
     check "Rust, by hand" "$due" "$rust" "$log"
+    single_refusals "$log"
     make_sound "$log" || stop "$log cannot be made sound"
     printf '%s\n' 'header ok' 'chunk 0 ok' '512 1 <P>-32768</P>' 'rest 5' >"$due"
     list_everywhere "a record in free space" "$log" "$due"
     printf '%s\n' '1 <P>-32768</P>' '2 refused: Malformed' >"$due"
     check "Rust, a record in free space" "$due" "$rust" "$log"
     printf '%s\n' '4608 110 1' '4718 28 2' >"$due"
-    check "carving, a record in free space" "$due" "$made/carve" "$log"
+    carve_everywhere "a record in free space" "$log" "$due"
     printf 'header refused 1\n' >"$due"
     list_everywhere "no bytes" /dev/null "$due"
     printf 'header: Length\n' >"$due"
@@ -156,24 +250,102 @@ across_windows() {
     { zeros $((last - 40)) && record_in_record && small_record && zeros $((65024 - 188 - 100)) \
         && record_in_record && zeros 7 && small_record && zeros 20; } >"$log"
     printf '%s\n' "$((last - 40)) 200 3" "$((last + 160)) 28 2" '16777116 200 3' '16777323 28 2' >"$due"
-    check "carving across windows" "$due" "$made/carve" "$log"
+    check "carving across windows" "$due" "$made/shared/carve" "$log"
     for n in $((last - 1)) $last $((last + 1)); do
         { zeros "$n" && large_record && small_record; } >"$log"
         printf '%s\n' "$n 65024 4" "$((n + 65024)) 28 2" >"$due"
-        check "carving a large record at $n" "$due" "$made/carve" "$log"
+        check "carving a large record at $n" "$due" "$made/shared/carve" "$log"
     done
     { zeros 16777116 && record_in_record && zeros 20; } >"$log"
     echo '16777116 200 3' >"$due"
-    check "carving nothing but a record across the end" "$due" "$made/carve" "$log"
+    check "carving nothing but a record across the end" "$due" "$made/shared/carve" "$log"
     { zeros $((16777216 - 28)) && small_record; } >"$log"
     echo '16777188 28 2' >"$due"
-    check "carving one whole window" "$due" "$made/carve" "$log"
+    check "carving one whole window" "$due" "$made/shared/carve" "$log"
     rm -f "$log"
 }
 
+# The examples with a log as their last word. The signal of a closed pipe is set as it is by default, whatever this script was started with.
+plain() {
+    env --default-signal=PIPE "$@"
+}
+
+one_text() {
+    plain "$made/shared/text" "$1" 0 512
+}
+
+to_full() {
+    "$@" >/dev/full
+}
+
+to_closed() {
+    "$@" >&-
+}
+
+# unread NAME COMMAND.. LOG: the reader of the pipe takes one byte of a longer output. The program is ended by the signal, without a word.
+unread() {
+    local name=$1 status
+    shift
+    checks=$((checks + 1))
+    "$@" 2>"$made/said" | head -c 1 >/dev/null
+    status=${PIPESTATUS[0]}
+    if [ "$status" -ne 141 ] || [ -s "$made/said" ]; then
+        head -n 4 "$made/said"
+        echo "FAILED $name, closed pipe: status $status, and what stands above"
+        failed=$((failed + 1))
+    fi
+}
+
+# manners NAME NUMBERS LONG COMMAND..: of a file that cannot be read and an output that cannot be written the example NAME says what the system
+# says; Rust adds the system's NUMBERS. LONG is a log of which it writes more than a pipe holds.
+manners() {
+    local name=$1 numbers=$2 long=$3
+    shift 3
+    told "$name, missing file" 1 "$name: nofile: No such file or directory${numbers:+ (os error 2)}" "$@" nofile
+    told "$name, folder" 1 "$name: samples: Is a directory${numbers:+ (os error 21)}" "$@" samples
+    told "$name, full disk" 1 "$name: standard output: No space left on device${numbers:+ (os error 28)}" to_full "$@" "$long"
+    told "$name, full disk at the end" 1 "$name: standard output: No space left on device${numbers:+ (os error 28)}" to_full "$@" "$made/hand.evtx"
+    unread "$name" "$@" "$long"
+}
+
+wrong_arguments() {
+    local name=$1 words=$2
+    shift 2
+    told "$name, no arguments" 2 "usage: $name $words" "$@"
+    told "$name, too many arguments" 2 "usage: $name $words" "$@" samples/panel.evtx 0 512 0
+}
+
+failures() {
+    local long=$made/long.evtx python="python3 examples/python/list.py" name
+    { cat samples/panel.evtx && for _ in $(seq 20); do tail -c +4097 samples/panel.evtx; done; } >"$long"
+    manners list '' "$long" plain "$made/shared/list"
+    manners carve '' "$long" plain "$made/shared/carve"
+    manners text '' "$made/longtext.evtx" one_text
+    manners list.py '' "$long" plain $python
+    manners evtx_safe numbers "$long" plain "$rust"
+    for name in list carve; do
+        told "$name, closed output" 1 "$name: standard output: Bad file descriptor" to_closed "$made/shared/$name" "$long"
+    done
+    told "text, closed output" 1 "text: standard output: Bad file descriptor" to_closed one_text "$made/hand.evtx"
+    told "list.py, closed output" 1 "list.py: standard output: Bad file descriptor" to_closed $python "$long"
+    told "evtx_safe, closed output, for which Rust puts /dev/null" 0 '' to_closed "$rust" "$long"
+    wrong_arguments list LOG "$made/shared/list"
+    wrong_arguments carve FILE "$made/shared/carve"
+    wrong_arguments text 'LOG CHUNK OFFSET' "$made/shared/text"
+    told "text, no number" 2 "usage: text LOG CHUNK OFFSET" "$made/shared/text" samples/panel.evtx 0 -512
+    wrong_arguments list.py LOG $python
+    wrong_arguments evtx_safe LOG "$rust"
+    told "list.py, no library" 1 "list.py: ./nolibrary.so: cannot open shared object file: No such file or directory" \
+        env EVTX_LIBRARY=./nolibrary.so $python samples/panel.evtx
+    rm -f "$long"
+}
+
 build
+linked
 samples
 by_hand
+long_text
 across_windows
+failures
 echo "examples: $checks checks, $failed failed"
 [ "$failed" -eq 0 ]
