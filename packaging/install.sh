@@ -31,13 +31,17 @@ put() {
     fi || stop "$1 is not installed"
 }
 
-# Those below first. The note keeps the folders that are still there.
+# The folders of this ROOT and those above it, the lowest first. The note keeps the folders that are still there.
 remove_folders() {
-    local folder
+    local folder root
     [ -f "$note" ] || return 0
-    tac "$note" | while IFS= read -r folder; do
-        rmdir "$folder" 2>/dev/null || [ ! -d "$folder" ] || echo "$folder"
-    done | tac >"$note.left" && mv "$note.left" "$note"
+    root=$(realpath -m "$1")
+    LC_ALL=C sort -ru "$note" | while IFS= read -r folder; do
+        if [[ $folder/ == "$root"/* || $root/ == "$folder"/* ]]; then
+            rmdir "$folder" 2>/dev/null
+        fi
+        [ ! -d "$folder" ] || echo "$folder"
+    done >"$note.left" && mv "$note.left" "$note"
 }
 
 [ $# -ge 2 ] || stop "wants install or uninstall, a folder and a list"
@@ -51,4 +55,4 @@ for entry; do
         *) stop "$act is neither install nor uninstall" ;;
     esac
 done
-[ "$act" = install ] || remove_folders
+[ "$act" = install ] || remove_folders "$root"

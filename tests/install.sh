@@ -1,0 +1,287 @@
+#!/usr/bin/env bash
+# Installs into folders under target/, looks at what then stands there, calls the front from its place, and takes everything away again.
+# What is due is written here by hand, or is samples/panel.listing, which the second reader wrote.
+#
+#     install.sh
+#
+# It ends in the line 'install: N checks, 0 failed' and status 0 exactly if everything held. A missing tool is a failure; the man pages
+# are looked at if groff is installed.
+set -u
+cd "$(dirname "$0")/.." || exit 1
+mkdir -p target || exit 1
+made=$(realpath target)/install
+root="$made/a root"
+tree="$root/opt/evtx"
+evtx="$tree/bin/evtx"
+library="$tree/lib/libevtx_c.so.0.2.0"
+completions="$tree/share/bash-completion/completions"
+usage='usage: evtx_list [--help | --version | FILE..]'
+front_usage='usage: evtx [--help | --version | help | list [FILE..]]'
+listing=$(cat samples/panel.listing)
+checks=0
+failed=0
+
+stop() {
+    echo "install: $1" >&2
+    exit 1
+}
+
+# same NAME DUE FOUND: two texts are equal.
+same() {
+    checks=$((checks + 1))
+    [ "$2" != "$3" ] || return 0
+    diff -a <(echo "$2") <(echo "$3") | cut -c 1-200 | head -n 10
+    echo "FAILED $1: < is due, > is there"
+    failed=$((failed + 1))
+}
+
+# answers NAME STATUS OUT ERRORS COMMAND..: its exit status, and what it writes to standard output and to standard error.
+answers() {
+    local name=$1 status=$2 out=$3 errors=$4 found
+    shift 4
+    timeout 20 "$@" >"$made/out" 2>"$made/errors"
+    found=$?
+    same "$name, exit status" "$status" "$found"
+    same "$name, standard output" "$out" "$(cat "$made/out")"
+    same "$name, standard error" "$errors" "$(cat "$made/errors")"
+}
+
+# Calls make install or make uninstall. What is installed is for everyone to read, whatever the files are that this user makes.
+make_target() {
+    (umask 077 && make --silent "$1" DESTDIR="$root" PREFIX=/opt/evtx) || stop "make $1 failed"
+}
+
+tree_due() {
+    cat <<'END'
+d 755 bin
+d 755 include
+d 755 lib
+d 755 lib/pkgconfig
+d 755 share
+d 755 share/bash-completion
+d 755 share/bash-completion/completions
+d 755 share/man
+d 755 share/man/man1
+f 644 include/evtx.h
+f 644 lib/libevtx_c.a
+f 644 lib/libevtx_c.so.0.2.0
+f 644 lib/pkgconfig/evtx.pc
+f 644 share/bash-completion/completions/evtx
+f 644 share/man/man1/evtx.1
+f 644 share/man/man1/evtx_list.1
+f 755 bin/evtx
+f 755 bin/evtx_list
+link lib/libevtx_c.so -> libevtx_c.so.0
+link lib/libevtx_c.so.0 -> libevtx_c.so.0.2.0
+link share/bash-completion/completions/evtx_list -> evtx
+END
+}
+
+calls_due() {
+    cat <<'END'
+evtx_check_chunk
+evtx_check_file_header
+evtx_free_space_offset
+evtx_next_in_bytes
+evtx_next_in_chunk
+evtx_record_fields
+evtx_record_stretch
+evtx_record_text
+evtx_search_bytes
+evtx_search_chunk
+evtx_size_in_bytes
+evtx_size_in_chunk
+evtx_text_length
+END
+}
+
+installed_files() {
+    same "the installed files" "$(tree_due)" \
+        "$(cd "$tree" && find . -mindepth 1 \( -type l -printf 'link %P -> %l\n' -o -printf '%y %m %P\n' \) | LC_ALL=C sort)"
+    same "the link of the soname leads to the library" "$library" "$(realpath "$tree/lib/libevtx_c.so.0")"
+    same "the link for the linker leads to the library" "$library" "$(realpath "$tree/lib/libevtx_c.so")"
+    same "the soname" 'Library soname: [libevtx_c.so.0]' "$(readelf -d "$library" | grep -o 'Library soname: .*')"
+    same "the calls of the shared library" "$(calls_due)" "$(nm -D --defined-only "$library" | awk '{ print $NF }' | LC_ALL=C sort)"
+    same "the prefix that pkg-config tells" /opt/evtx "$(PKG_CONFIG_PATH="$tree/lib/pkgconfig" pkg-config --variable=prefix evtx)"
+}
+
+versions() {
+    same "the version of pkg-config" 0.2.0 "$(PKG_CONFIG_PATH="$tree/lib/pkgconfig" pkg-config --modversion evtx)"
+    same "the version of the header" '"0.2.0"' "$(printf '#include <evtx.h>\nEVTX_VERSION\n' | gcc -E -P -I "$tree/include" - | tail -n 1)"
+    same "the version of the page evtx.1" '.TH EVTX 1 "" "evtx 0.2.0"' "$(grep '^\.TH' "$tree/share/man/man1/evtx.1")"
+    same "the version of the page evtx_list.1" '.TH EVTX_LIST 1 "" "evtx 0.2.0"' "$(grep '^\.TH' "$tree/share/man/man1/evtx_list.1")"
+    answers "evtx --version" 0 'evtx 0.2.0' '' "$evtx" --version
+    answers "evtx list --version" 0 'evtx_list 0.2.0' '' "$evtx" list --version
+}
+
+man_pages() {
+    local page
+    command -v groff >/dev/null || { echo "install: groff is not installed, and the man pages were not looked at" && return; }
+    for page in evtx evtx_list; do
+        same "what groff says of $page.1" '' "$(groff -t -man -ww -b -Tutf8 "$tree/share/man/man1/$page.1" 2>&1 >/dev/null)"
+    done
+}
+
+# completed NAME DUE WORD..: what is offered for the last of the words. That files are offered is told by the option that is set for it.
+completed() {
+    local name=$1 due=$2
+    shift 2
+    same "completion of $name" "$due" "$(bash -c '
+        compopt() { echo "compopt $*"; }
+        . "$0"
+        COMP_WORDS=("$@") COMP_CWORD=$(($# - 1))
+        $(complete -p "$1" | sed -E "s/^complete -F ([^ ]*) .*/\1/")
+        echo "${COMPREPLY[*]}"' "$completions/$1" "$@")"
+}
+
+completion() {
+    completed "evtx" 'list help --help --version' evtx ''
+    completed "evtx l" list evtx l
+    completed "evtx list --" '--help --version' evtx list --
+    completed "evtx list sam" 'compopt -o default' evtx list sam
+    completed "evtx help sam" '' evtx help sam
+    completed "evtx_list --v" --version evtx_list --v
+    completed "evtx_list a sam" 'compopt -o default' evtx_list a sam
+}
+
+words_of_the_front() {
+    answers "evtx" 2 '' "$front_usage" "$evtx"
+    answers "evtx lists" 2 '' 'evtx: lists: no such subcommand; evtx help lists them' "$evtx" lists samples/panel.evtx
+    answers "evtx -x" 2 '' 'evtx: -x: no such subcommand; evtx help lists them' "$evtx" -x
+    same "the first line of evtx help" "$front_usage" "$("$evtx" help | head -n 1)"
+    answers "evtx --help" 0 "$("$evtx" help)" '' "$evtx" --help
+    same "the first line of evtx list --help" "$usage" "$("$evtx" list --help | head -n 1)"
+    answers "evtx list --help" 0 "$("$tree/bin/evtx_list" --help)" '' "$evtx" list --help
+    answers "evtx list --wrong" 1 '' "$usage" "$evtx" list --wrong
+}
+
+listings() {
+    answers "evtx list" 0 "$listing" '' "$evtx" list samples/panel.evtx
+    answers "evtx found by PATH" 0 "$listing" '' env PATH="$tree/bin:$PATH" evtx list samples/panel.evtx
+    answers "evtx list of standard input" 0 "$listing" '' sh -c '"$0" list <samples/panel.evtx' "$evtx"
+    answers "evtx list of a pipe" 0 "$listing" '' sh -c 'cat samples/panel.evtx | "$0" list -' "$evtx"
+    answers "evtx list of a missing file" 1 '' 'evtx_list: nofile: No such file or directory' "$evtx" list nofile
+    answers "evtx list of a folder and a log" 1 $'samples:\nsamples/panel.evtx:\n'"$listing" 'evtx_list: samples: Is a directory' \
+        "$evtx" list samples samples/panel.evtx
+}
+
+# broken_streams SHELL: the front as run by that shell, which differ in what becomes of a closed stream beside a pipe.
+broken_streams() {
+    local shell=$1
+    answers "closed input, $shell" 1 '' 'evtx_list: standard input: Bad file descriptor' sh -c '"$1" "$0" list <&-' "$evtx" "$shell"
+    answers "closed output, $shell" 1 '' 'evtx_list: standard output: Bad file descriptor' sh -c '"$1" "$0" list samples/panel.evtx >&-' "$evtx" "$shell"
+    answers "full output, $shell" 1 '' 'evtx_list: standard output: No space left on device' \
+        sh -c '"$1" "$0" list samples/panel.evtx >/dev/full' "$evtx" "$shell"
+    answers "closed errors, $shell" 1 '' '' sh -c '"$1" "$0" list nofile 2>&-' "$evtx" "$shell"
+    answers "closed errors, nothing to say, $shell" 0 "$listing" '' sh -c '"$1" "$0" list samples/panel.evtx 2>&-' "$evtx" "$shell"
+    answers "full errors, $shell" 1 '' '' sh -c '"$1" "$0" list nofile 2>/dev/full' "$evtx" "$shell"
+    answers "closed input and errors, $shell" 1 '' '' sh -c '"$1" "$0" list <&- 2>&-' "$evtx" "$shell"
+    answers "all closed, $shell" 1 '' '' sh -c '"$1" "$0" list <&- >&- 2>&-' "$evtx" "$shell"
+}
+
+# The program sees the terminal that the front was given: it asks for a file in place of reading.
+at_terminal() {
+    python3 - "$evtx" <<'END'
+import pty, subprocess, sys
+_, end = pty.openpty()
+try:
+    done = subprocess.run([sys.argv[1], "list"], stdin=end, capture_output=True, timeout=20)
+    print(done.returncode, (done.stdout + done.stderr).decode())
+except subprocess.TimeoutExpired:
+    print("it waits")
+END
+}
+
+# The reader of the pipe takes one byte of a listing that is longer than a pipe holds.
+closed_pipe() {
+    local long=$made/long.evtx status
+    { cat samples/panel.evtx && for _ in $(seq 20); do tail -c +4097 samples/panel.evtx; done; } >"$long"
+    env --default-signal=PIPE "$evtx" list "$long" 2>"$made/errors" | head -c 1 >/dev/null
+    status=${PIPESTATUS[0]}
+    same "a closed pipe, exit status" 141 "$status"
+    same "a closed pipe, standard error" '' "$(cat "$made/errors")"
+}
+
+# What the program says of its first file is there while it still waits for the second.
+as_it_comes() {
+    local job
+    mkfifo "$made/pipe" || stop "no pipe can be made"
+    "$evtx" list nofile - <"$made/pipe" >/dev/null 2>"$made/errors" &
+    job=$!
+    exec 8>"$made/pipe"
+    for _ in $(seq 100); do
+        [ ! -s "$made/errors" ] || break
+        sleep 0.1
+    done
+    same "standard error as it comes" 'evtx_list: nofile: No such file or directory' "$(cat "$made/errors")"
+    exec 8>&-
+    wait "$job"
+    same "standard error as it comes, exit status" 1 $?
+}
+
+# The front beside another program, of the lines given.
+stand_in() {
+    mkdir -p "$made/front" && cp "$evtx" "$made/front/evtx" || stop "no second front can be made"
+    printf '%s\n' '#!/bin/sh' "$@" >"$made/front/evtx_list" && chmod 755 "$made/front/evtx_list"
+}
+
+other_programs() {
+    stand_in 'kill -9 $$'
+    "$made/front/evtx" list >/dev/null 2>&1
+    same "a program that a signal ended" 137 $?
+    stand_in 'printf "a line without its end" >&2'
+    answers "a line without its end" 1 '' 'a line without its end' "$made/front/evtx" list
+    stand_in 'for i in $(seq 20000); do echo "$i" >&2; done' 'echo listed'
+    answers "more errors than a pipe holds" 1 listed "$(seq 20000)" "$made/front/evtx" list
+    answers "more errors than a pipe holds, and a full disk" 1 listed '' sh -c '"$0" list 2>/dev/full' "$made/front/evtx"
+    rm "$made/front/evtx_list"
+    "$made/front/evtx" list >/dev/null 2>&1
+    same "no program" 127 $?
+}
+
+left_due() {
+    cat <<'END'
+.
+./opt
+./opt/evtx
+./opt/evtx/include
+./opt/evtx/share
+./opt/evtx/share/man
+./opt/evtx/share/man/man1
+./opt/evtx/share/man/man1/foreign.1
+END
+}
+
+# A folder that was there before stays, empty or not, and so does what others put there.
+uninstalled() {
+    make_target uninstall
+    same "what is left of an installation" absent "$([ -e "$root" ] && find "$root" || echo absent)"
+    mkdir -p "$tree/share/man/man1" "$tree/include" && echo foreign >"$tree/share/man/man1/foreign.1" || stop "$tree cannot be made"
+    make_target install
+    make_target install
+    same "the page of others beside ours" $'evtx.1\nevtx_list.1\nforeign.1' "$(ls "$tree/share/man/man1")"
+    make_target uninstall
+    same "what is left where others are" "$(left_due)" "$(cd "$root" && find . | LC_ALL=C sort)"
+    make_target uninstall
+    same "what a second make uninstall leaves" "$(left_due)" "$(cd "$root" && find . | LC_ALL=C sort)"
+    same "the page of others" foreign "$(cat "$tree/share/man/man1/foreign.1")"
+}
+
+rm -rf "$made" && mkdir -p "$made" || stop "$made cannot be made"
+make_target install
+installed_files
+versions
+man_pages
+completion
+words_of_the_front
+listings
+broken_streams sh
+broken_streams bash
+same "a terminal as standard input" "1 $usage" "$(at_terminal)"
+closed_pipe
+as_it_comes
+other_programs
+uninstalled
+rm -rf "$made"
+echo "install: $checks checks, $failed failed"
+[ "$failed" -eq 0 ]
