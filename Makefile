@@ -57,7 +57,7 @@ bench: $(program) $(archive) ## measures speed and memory beside other programs 
 soak: $(program) $(archive) ## compares both readers for MINUTES=n, each time with another seed, or once with SEED=s (docs/ENDURANCE.md)
 	@bash tests/soak.sh $(MINUTES) $(SEED)
 
-install: $(program) $(archive) $(shared) ## installs programs, libraries, header, pkg-config file, man pages and completion under PREFIX (/usr/local), in DESTDIR if given
+install: $(program) $(archive) $(shared) ## installs programs, libraries, header, man pages and completion under PREFIX (/usr/local), in DESTDIR if given
 	@sed -e 's|@PREFIX@|$(PREFIX)|' -e 's|@VERSION@|$(VERSION)|' packaging/evtx.pc.in >target/evtx.pc
 	@bash packaging/install.sh install "$(root)" $(installed)
 
