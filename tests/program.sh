@@ -175,6 +175,8 @@ options() {
         says "'$word' before a file" 1 "$usage" "\"\$@\" '$word' samples/panel.evtx"
     done
     says 'an unknown option before --help' 1 "$usage" '"$@" -x --help'
+    says 'an option of 5,001 bytes' 1 "$usage" '"$@" "-$(long_path 5000)"'
+    says 'an option of 5,001 bytes before --help' 1 "$usage" '"$@" "-$(long_path 5000)" --help'
 }
 
 # refused NAME REASON: the one line for a word that is not listed.
