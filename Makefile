@@ -2,7 +2,7 @@
 SHELL = bash
 .SHELLFLAGS = -o pipefail -c
 LOG ?= samples/panel.evtx
-MINUTES ?= 0
+MINUTES ?=
 SEED ?=
 PREFIX ?= /usr/local
 DESTDIR ?=
@@ -33,7 +33,7 @@ installed = \
 	$(completions)/evtx:644:packaging/evtx.bash \
 	$(completions)/evtx_list:link:evtx
 
-.PHONY: help test list install uninstall clean compare examples bench soak
+.PHONY: help test list install uninstall clean compare examples bench soak fuzz
 .NOTPARALLEL:
 
 help: ## says what each target does
@@ -55,7 +55,10 @@ bench: $(program) $(archive) ## measures speed and memory beside other programs 
 	@$(MAKE) --no-print-directory -C bench
 
 soak: $(program) $(archive) ## compares both readers for MINUTES=n, each time with another seed, or once with SEED=s (docs/ENDURANCE.md)
-	@bash tests/soak.sh $(MINUTES) $(SEED)
+	@bash tests/soak.sh $(or $(MINUTES),0) $(SEED)
+
+fuzz: $(archive) ## compares both readers for MINUTES=n (1) on inputs guided by the code that they reach (docs/ENDURANCE.md)
+	@bash tests/fuzz.sh $(or $(MINUTES),1)
 
 install: $(program) $(archive) $(shared) ## installs programs, libraries, header, man pages and completion under PREFIX (/usr/local), in DESTDIR if given
 	@sed -e 's|@PREFIX@|$(PREFIX)|' -e 's|@VERSION@|$(VERSION)|' packaging/evtx.pc.in >target/evtx.pc

@@ -6,13 +6,32 @@ mod files;
 mod headers;
 mod loose;
 
-use crate::trial::{Calls, Case};
 use log_writer::Random;
 use support::difference::{Difference, Outcome};
 use support::kinds::{rounds, Kind};
 
 /// The number for a run that is given none.
 pub const SEED: u64 = 0x0065_7674_7800_0001;
+
+/// An input, and how it came about.
+pub struct Case {
+    pub kind: &'static str,
+    pub seed: u64,
+    /// Which of the inputs that this kind makes of this seed.
+    pub part: usize,
+    pub bytes: Vec<u8>,
+    /// What stands in memory after the lent bytes.
+    pub behind: Vec<u8>,
+    pub calls: Calls,
+}
+
+/// Which calls an input is for.
+#[derive(Clone, Copy, PartialEq, Eq)]
+pub enum Calls {
+    All,
+    /// The header checks only, for inputs that differ in header bytes alone.
+    Checks,
+}
 
 /// Lent bytes, what stands behind them, and the calls they are for.
 pub struct Input {

@@ -6,11 +6,10 @@ use second_reader::header;
 use support::difference::Outcome;
 
 pub fn compare(trial: &mut Trial) -> Outcome {
-    let bytes = &trial.case.bytes;
     let first = first_reader::check_file_header(&mut trial.lent);
-    let second = Answer::without_length(header::check_file_header(bytes));
+    let second = Answer::without_length(header::check_file_header(trial.bytes));
     trial.check("evtx_check_file_header", "", first, second)?;
     let first = first_reader::check_chunk(&mut trial.lent);
-    let second = Answer::without_length(header::check_chunk(bytes));
+    let second = Answer::without_length(header::check_chunk(trial.bytes));
     trial.check("evtx_check_chunk", "", first, second)
 }

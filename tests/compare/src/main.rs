@@ -4,33 +4,30 @@
 //! `compare [--seed NUMBER]`: the inputs follow from NUMBER, or from a fixed one.
 
 mod cases;
-mod headers;
-mod nexts;
-mod records;
-mod searches;
-mod trial;
 
+use cases::{Calls, Case};
+use compare::trial::Trial;
+use compare::{headers, nexts, records, searches};
 use std::path::Path;
 use std::process::ExitCode;
 use support::difference::{report, Difference, Origin, Outcome};
+use support::offsets::worth_asking;
 use support::seed::take_seed;
 use support::tally::Tally;
-use trial::{Calls, Case, Trial};
 
 /// The numbers that the compared calls can answer.
 const EXPECTED: [u32; 9] = [0, 1, 2, 3, 4, 5, 6, 7, 13];
 
-/// The groups of calls compared on every input beside the header checks.
-const GROUPS: [fn(&mut Trial) -> Outcome; 3] =
-    [searches::compare, nexts::compare, records::compare];
-
 fn compare(case: &Case, tally: &mut Tally) -> Outcome {
-    let mut trial = Trial::new(case, tally);
+    let mut trial = Trial::new(&case.bytes, &case.behind, case.seed, tally);
     headers::compare(&mut trial)?;
-    if case.calls == Calls::All {
-        for group in GROUPS {
-            group(&mut trial)?;
-        }
+    if case.calls == Calls::Checks {
+        return Ok(());
+    }
+    searches::compare(&mut trial)?;
+    for offset in worth_asking(&case.bytes, case.seed) {
+        nexts::compare(&mut trial, offset)?;
+        records::compare(&mut trial, offset)?;
     }
     Ok(())
 }

@@ -11,32 +11,34 @@ use support::lent::Lent;
 type First = fn(&mut Lent<u8>, &mut Lent<u32>) -> Answer;
 type Second = fn(&[u8], usize) -> Result<Vec<u32>, u32>;
 
-pub fn compare(trial: &mut Trial) -> Outcome {
-    search(trial, "evtx_search_chunk", first_reader::search_chunk, record::search_chunk)?;
-    search(trial, "evtx_search_bytes", first_reader::search_bytes, record::search_bytes)
-}
+/// A search, as both readers have it.
+type Search = (&'static str, First, Second);
 
-fn search(trial: &mut Trial, call: &'static str, first: First, second: Second) -> Outcome {
-    let whole = second(&trial.case.bytes, usize::MAX);
-    let count = whole.map_or(0, |list| list.len());
-    let rooms = [0, count.saturating_sub(1), count, count + 1, count + 300];
-    for room in BTreeSet::from(rooms) {
-        with_room(trial, call, first, second, room)?;
+const CHUNK: Search = ("evtx_search_chunk", first_reader::search_chunk, record::search_chunk);
+const BYTES: Search = ("evtx_search_bytes", first_reader::search_bytes, record::search_bytes);
+
+/// Both searches, each with rooms around the number of records.
+pub fn compare(trial: &mut Trial) -> Outcome {
+    for search in [CHUNK, BYTES] {
+        let whole = search.2(trial.bytes, usize::MAX);
+        let count = whole.map_or(0, |list| list.len());
+        let rooms = [0, count.saturating_sub(1), count, count + 1, count + 300];
+        BTreeSet::from(rooms).into_iter().try_for_each(|room| with_room(trial, search, room))?;
     }
     Ok(())
 }
 
-fn with_room(
-    trial: &mut Trial,
-    call: &'static str,
-    first: First,
-    second: Second,
-    room: usize,
-) -> Outcome {
+/// Both searches with one room.
+pub fn compare_room(trial: &mut Trial, room: usize) -> Outcome {
+    with_room(trial, CHUNK, room)?;
+    with_room(trial, BYTES, room)
+}
+
+fn with_room(trial: &mut Trial, (call, first, second): Search, room: usize) -> Outcome {
     let asked = format!("room {room}");
     let mut list = Lent::list(room);
     let first_answer = first(&mut trial.lent, &mut list);
-    let expected = second(&trial.case.bytes, room);
+    let expected = second(trial.bytes, room);
     let (number, offsets) = match &expected {
         Ok(offsets) => (0, offsets.as_slice()),
         Err(number) => (*number, &[][..]),

@@ -1,31 +1,11 @@
-//! One input of the comparison: after each call the answers of both readers are
+//! One input of a comparison: after each call the answers of both readers are
 //! compared here, and the lent memory is checked.
 
-use first_reader::answers::{Answer, Fields, Found, Stretch};
+use first_reader::answers::{Answer, Fields, Found, Stretch, Text};
 use std::fmt::{Debug, Display};
 use support::difference::{Difference, Outcome};
 use support::lent::Lent;
 use support::tally::Tally;
-
-/// An input, and how it came about.
-pub struct Case {
-    pub kind: &'static str,
-    pub seed: u64,
-    /// Which of the inputs that this kind makes of this seed.
-    pub part: usize,
-    pub bytes: Vec<u8>,
-    /// What stands in memory after the lent bytes.
-    pub behind: Vec<u8>,
-    pub calls: Calls,
-}
-
-/// Which calls an input is for.
-#[derive(Clone, Copy, PartialEq, Eq)]
-pub enum Calls {
-    All,
-    /// The header checks only, for inputs that differ in header bytes alone.
-    Checks,
-}
 
 /// An answer of the C interface.
 pub trait Numbered: Copy + Debug + PartialEq {
@@ -42,18 +22,23 @@ macro_rules! numbered {
     };
 }
 
-numbered!(Answer, Found, Stretch, Fields);
+numbered!(Answer, Found, Stretch, Fields, Text);
 
 pub struct Trial<'a> {
-    pub case: &'a Case,
+    pub bytes: &'a [u8],
     pub lent: Lent<u8>,
     tally: &'a mut Tally,
 }
 
 impl<'a> Trial<'a> {
-    pub fn new(case: &'a Case, tally: &'a mut Tally) -> Trial<'a> {
-        let shift = (case.seed % 8) as usize;
-        Trial { case, lent: Lent::input(&case.bytes, &case.behind, shift), tally }
+    /// Lends `bytes`, with `behind` after them, at an address that `shift` moves.
+    pub fn new(bytes: &'a [u8], behind: &[u8], shift: u64, tally: &'a mut Tally) -> Trial<'a> {
+        Trial { bytes, lent: Lent::input(bytes, behind, (shift % 8) as usize), tally }
+    }
+
+    /// Notes the number that a call is to answer.
+    pub fn note(&mut self, call: &'static str, number: u32) {
+        self.tally.note(call, number);
     }
 
     /// Both answers are equal, and the input is unchanged.
@@ -64,7 +49,7 @@ impl<'a> Trial<'a> {
         first: A,
         second: A,
     ) -> Outcome {
-        self.tally.note(call, second.number());
+        self.note(call, second.number());
         let differ = |found: String| Err(Difference { call, asked: asked.to_string(), found });
         if first != second {
             return differ(format!("first reader:  {first:?}\nsecond reader: {second:?}"));

@@ -1,5 +1,6 @@
 //! The first thing in which the readers differ, and its report.
 
+use std::fmt;
 use std::path::Path;
 
 /// How much of a line a report shows.
@@ -9,6 +10,12 @@ pub struct Difference {
     pub call: &'static str,
     pub asked: String,
     pub found: String,
+}
+
+impl fmt::Display for Difference {
+    fn fmt(&self, out: &mut fmt::Formatter) -> fmt::Result {
+        write!(out, "DIFFERENCE in {} {}\n{}", self.call, self.asked, self.found)
+    }
 }
 
 pub type Outcome = Result<(), Difference>;
@@ -24,8 +31,7 @@ pub struct Origin<'a> {
 
 /// Prints the difference and the input's origin, and leaves the input at `path`.
 pub fn report(difference: &Difference, origin: &Origin, path: &Path) {
-    println!("DIFFERENCE in {} {}", difference.call, difference.asked);
-    println!("{}", difference.found);
+    println!("{difference}");
     println!("kind: {}", origin.kind);
     println!("seed: {:#018x}, part {}, {} bytes", origin.seed, origin.part, origin.bytes.len());
     match std::fs::write(path, origin.bytes) {

@@ -1,0 +1,9 @@
+//! A call made to both readers on the same lent memory, and their answers
+//! compared: the first reader through its C interface, the second one directly.
+
+pub mod headers;
+pub mod nexts;
+pub mod records;
+pub mod searches;
+pub mod texts;
+pub mod trial;

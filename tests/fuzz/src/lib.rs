@@ -1,0 +1,32 @@
+//! Inputs of a fuzzer as calls to both readers. The bytes of an input say which
+//! calls are made and on what memory; the answers and the memory are compared.
+
+mod bases;
+mod form;
+pub mod seeds;
+
+use compare::trial::Trial;
+use compare::{headers, nexts, records, searches, texts};
+use form::{Calls, Head, Lent};
+use support::difference::Outcome;
+use support::tally::Tally;
+
+/// The longest input that a fuzzer is to make: some records of usual size. The
+/// time of a text grows with the length of what is written again and again.
+pub const LONGEST: usize = 4_096;
+
+/// Makes the calls that the input asks for, to both readers.
+pub fn one_input(input: &[u8], tally: &mut Tally) -> Outcome {
+    let (head, rest) = Head::split(input);
+    let Lent { bytes, behind } = head.form.lent(&head, rest);
+    let trial = &mut Trial::new(&bytes, &behind, head.room as u64, tally);
+    match head.calls {
+        Calls::Record => {
+            records::compare(trial, head.offset)?;
+            texts::compare(trial, head.offset, head.room)
+        }
+        Calls::Checks => headers::compare(trial),
+        Calls::Searches => searches::compare_room(trial, head.room),
+        Calls::Nexts => nexts::compare(trial, head.offset),
+    }
+}

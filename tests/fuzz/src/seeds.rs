@@ -1,0 +1,93 @@
+//! The inputs that a fuzzer begins with: the records of the chunks that inputs
+//! are laid over, generated questions, headers, and loose bytes.
+
+use crate::form::{pieces, Calls, Form, Head, CALLS, HEADER_SEALED, LONG, SEALED, SHORT};
+use crate::{bases, LONGEST};
+use compare_text::generated;
+use compare_text::hand;
+use log_writer::{Random, CHUNK, DATA};
+use second_reader::record::{record_stretch, search_chunk};
+use support::generate::{dense_bytes, sound_file_header};
+
+const SEED: u64 = 0x0065_7674_7800_0007;
+/// One of so many generated questions becomes a seed.
+const ONE_OF: usize = 40;
+const LOOSE: usize = 60;
+/// The room beside those that follow from a text's length; a small one costs less.
+const ROOM: usize = 400;
+
+/// All seeds, none longer than a fuzzer's inputs.
+pub fn all() -> Vec<Vec<u8>> {
+    let mut seeds = records();
+    seeds.extend(questions());
+    seeds.extend(headers());
+    seeds.extend(loose());
+    seeds.retain(|seed| seed.len() <= LONGEST);
+    seeds
+}
+
+fn head(form: Form, base: usize, calls: Calls) -> Head {
+    Head { form, base: base as u8, flags: 0, calls, offset: DATA as u64, room: ROOM }
+}
+
+/// Every record of every base, as the binary XML of a record at its offset.
+fn records() -> Vec<Vec<u8>> {
+    let mut seeds = Vec::new();
+    for (number, chunk) in bases::all().iter().enumerate() {
+        let offsets = search_chunk(chunk, usize::MAX).expect("a full chunk and any room");
+        for offset in offsets.into_iter().map(u64::from) {
+            let stretch = record_stretch(chunk, offset).expect("a record that the search listed");
+            let (from, length) = (stretch.offset as usize, stretch.length as usize);
+            let head = Head { offset, ..head(Form::Record, number, Calls::Record) };
+            seeds.push(head.input(&chunk[from..from + length]));
+        }
+    }
+    seeds
+}
+
+/// The questions by hand and some of the generated ones, as pieces of a chunk of
+/// zeros. Its header is left out, which the text does not look at.
+fn questions() -> Vec<Vec<u8>> {
+    let mut turn = 0;
+    let mut seeds = Vec::new();
+    let mut take = |chunk: &[u8], offset: u64| {
+        turn += 1;
+        if turn % ONE_OF == 0 && chunk.len() == CHUNK && offset < 1 << 16 {
+            let head = Head { offset, ..head(Form::Pieces, 0, Calls::Record) };
+            seeds.push(head.input(&pieces(chunk, DATA)));
+        }
+    };
+    hand::all().for_each(|question| take(&question.chunk, question.offsets[0]));
+    let never = generated::for_each(generated::SEED, &mut |question| {
+        take(&question.chunk, question.offsets[0]);
+        Ok::<(), ()>(())
+    });
+    assert!(never.is_ok());
+    seeds
+}
+
+/// Headers of chunks and of files, with right checksums and lengths and not.
+fn headers() -> Vec<Vec<u8>> {
+    let mut random = Random::new(SEED);
+    let file = sound_file_header(&mut random);
+    let mut seeds = Vec::new();
+    for flags in [0, SEALED, HEADER_SEALED, SHORT, LONG] {
+        for (number, chunk) in bases::all().iter().enumerate() {
+            let front = |calls| Head { flags, ..head(Form::Front, number, calls) };
+            seeds.extend(CALLS.map(|calls| front(calls).input(&chunk[..DATA])));
+        }
+        let head = Head { flags, ..head(Form::FileHeader, 0, Calls::Checks) };
+        seeds.push(head.input(&file[..128]));
+    }
+    seeds
+}
+
+fn loose() -> Vec<Vec<u8>> {
+    let mut random = Random::new(SEED);
+    let mut one = || {
+        let length = random.below(600);
+        let bytes = dense_bytes(&mut random, length);
+        CALLS.map(|calls| Head { offset: 0, ..head(Form::Loose, 0, calls) }.input(&bytes))
+    };
+    (0..LOOSE).flat_map(|_| one()).collect()
+}
