@@ -28,8 +28,8 @@ mkdir -p $folder/inputs
 target/tests/release/fuzz --seeds $folder/seeds || fail "the inputs to begin with cannot be made"
 
 # A text that is written again and again up to the limits takes seconds, hence the long timeout.
-$folder/build/release/guided -max_len=4096 -max_total_time=$((60 * minutes)) -timeout=300 -print_final_stats=1 -artifact_prefix=$folder/ \
-    $folder/inputs $folder/seeds >"$log" 2>&1
+$folder/build/release/guided -max_len=4096 -dict=tests/fuzz/dictionary -max_total_time=$((60 * minutes)) -timeout=300 -print_final_stats=1 \
+    -artifact_prefix=$folder/ $folder/inputs $folder/seeds >"$log" 2>&1
 status=$?
 inputs=$(sed -nE 's/^stat::number_of_executed_units: +([0-9]+)$/\1/p' "$log")
 reached=$(sed -nE 's/^#[0-9]+.* cov: ([0-9]+) .*/\1/p' "$log" | tail -n 1)

@@ -40,8 +40,9 @@ const FORMS: [Form; 5] = [Form::Record, Form::Pieces, Form::Front, Form::FileHea
 /// as long as the others, so an input asks for one of these.
 #[derive(Clone, Copy, Debug, PartialEq, Eq)]
 pub enum Calls {
-    /// Stretch, fields and text of the record at the offset.
+    /// Size, stretch, fields, and text with its length, of the record at the offset.
     Record,
+    /// The checks, and the free-space offset.
     Checks,
     Searches,
     /// The next record from the offset on.

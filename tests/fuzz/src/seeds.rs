@@ -75,6 +75,8 @@ fn headers() -> Vec<Vec<u8>> {
         for (number, chunk) in bases::all().iter().enumerate() {
             let front = |calls| Head { flags, ..head(Form::Front, number, calls) };
             seeds.extend(CALLS.map(|calls| front(calls).input(&chunk[..DATA])));
+            let little_room = Head { room: 3, ..front(Calls::Searches) };
+            seeds.push(little_room.input(&chunk[..DATA]));
         }
         let head = Head { flags, ..head(Form::FileHeader, 0, Calls::Checks) };
         seeds.push(head.input(&file[..128]));
