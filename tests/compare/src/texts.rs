@@ -1,13 +1,15 @@
-//! Compares the call for a record's text, with rooms around the text's length.
+//! Compares the calls for the length of a record's text, and for the text with
+//! rooms around that length.
 
 use crate::trial::Trial;
 use first_reader::answers::Text;
-use second_reader::binxml::{read_record, record_text};
+use second_reader::binxml::{record_text, text_length};
 use std::collections::BTreeSet;
 use support::difference::{Difference, Outcome};
 use support::lent::Lent;
 
 pub const CALL: &str = "evtx_record_text";
+pub const LENGTH_CALL: &str = "evtx_text_length";
 /// Texts longer than this are asked for with rooms that are too small.
 const LONGEST: u64 = 1 << 20;
 /// What a difference shows of a text.
@@ -16,16 +18,31 @@ const SHOWN: usize = 400;
 /// A text, or the number of its refusal.
 pub type Answer = Result<Vec<u8>, u32>;
 
-/// The length of the text, if there is one and room can be lent for it.
-pub fn lendable_length(chunk: &[u8], offset: u64) -> Option<usize> {
-    let length = read_record(chunk, offset, 0).length.ok();
-    length.filter(|length| *length <= LONGEST).map(|length| length as usize)
+/// The length of the text, whatever room there is, from both readers and by hand
+/// where it was worked out. Answers what the first reader answered, if there is a
+/// text and room can be lent for it.
+pub fn length(
+    trial: &mut Trial,
+    offset: u64,
+    hand: Option<Result<u64, u32>>,
+) -> Result<Option<usize>, Difference> {
+    let asked = format!("offset {offset}, of {} bytes", trial.bytes.len());
+    let answer = first_reader::text_length(&mut trial.lent, offset);
+    let second = text_length(trial.bytes, offset).map_err(|refusal| refusal.number);
+    trial.check(LENGTH_CALL, &asked, answer, second.into())?;
+    if let Some(hand) = hand.filter(|hand| *hand != second) {
+        let found = format!("both readers: {answer:?}\nby hand: {hand:?}");
+        return Err(Difference { call: LENGTH_CALL, asked, found });
+    }
+    let lendable = answer.number == 0 && answer.length <= LONGEST;
+    Ok(lendable.then_some(answer.length as usize))
 }
 
-/// The text with `room`, and with rooms that are just enough and one too small.
+/// The length of the text, and the text with `room`, with just enough and with
+/// one byte too few.
 pub fn compare(trial: &mut Trial, offset: u64, room: usize) -> Outcome {
     let mut rooms = BTreeSet::from([room]);
-    if let Some(length) = lendable_length(trial.bytes, offset) {
+    if let Some(length) = length(trial, offset, None)? {
         rooms.extend([length.saturating_sub(1), length]);
     }
     for room in rooms {

@@ -5,7 +5,20 @@
 #[derive(Clone, Debug, PartialEq, Eq)]
 pub enum Expected {
     Text(Vec<u8>),
+    /// A text of so many bytes, for which no room is lent.
+    Long(u64),
     Refused(u32),
+}
+
+impl Expected {
+    /// The length of the text, or the refusal.
+    pub fn length(&self) -> Result<u64, u32> {
+        match self {
+            Expected::Text(text) => Ok(text.len() as u64),
+            Expected::Long(length) => Ok(*length),
+            Expected::Refused(number) => Err(*number),
+        }
+    }
 }
 
 pub struct Question {
@@ -42,6 +55,10 @@ impl Question {
 
     pub fn refused(name: impl Into<String>, chunk: Vec<u8>, number: u32) -> Question {
         Question { expected: Some(Expected::Refused(number)), ..Question::new(name, chunk) }
+    }
+
+    pub fn long(name: impl Into<String>, chunk: Vec<u8>, length: u64) -> Question {
+        Question { expected: Some(Expected::Long(length)), ..Question::new(name, chunk) }
     }
 
     pub fn at(self, offset: u64) -> Question {

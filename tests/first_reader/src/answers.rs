@@ -3,7 +3,7 @@
 
 use second_reader::record;
 
-/// What a check or a search answers.
+/// What a check, a search or a call for a record's size answers.
 #[repr(C)]
 #[derive(Clone, Copy, Debug, PartialEq, Eq)]
 pub struct Answer {
@@ -11,7 +11,7 @@ pub struct Answer {
     pub length: u64,
 }
 
-/// What a call for the next record answers.
+/// What a call for the next record or for the free-space offset answers.
 #[repr(C)]
 #[derive(Clone, Copy, Debug, PartialEq, Eq)]
 pub struct Found {
@@ -37,7 +37,7 @@ pub struct Fields {
     pub written_time: u64,
 }
 
-/// What a call for a record's text answers.
+/// What a call for a record's text or for its length answers.
 #[repr(C)]
 #[derive(Clone, Copy, Debug, PartialEq, Eq)]
 pub struct Text {
@@ -49,6 +49,24 @@ impl Answer {
     /// Of a check.
     pub fn without_length(number: u32) -> Answer {
         Answer { number, length: 0 }
+    }
+}
+
+impl From<Result<u64, u32>> for Answer {
+    fn from(size: Result<u64, u32>) -> Answer {
+        match size {
+            Ok(length) => Answer { number: 0, length },
+            Err(number) => Answer { number, length: 0 },
+        }
+    }
+}
+
+impl From<Result<u64, u32>> for Text {
+    fn from(length: Result<u64, u32>) -> Text {
+        match length {
+            Ok(length) => Text { number: 0, length },
+            Err(number) => Text { number, length: 0 },
+        }
     }
 }
 

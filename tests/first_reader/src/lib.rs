@@ -86,3 +86,19 @@ pub fn record_text(
         evtx_record_text(chunk.pointer(), chunk.length(), offset, out.pointer(), out.length())
     }
 }
+
+pub fn text_length(chunk: &mut impl Lendable<u8>, offset: u64) -> Text {
+    unsafe { evtx_text_length(chunk.pointer(), chunk.length(), offset) }
+}
+
+pub fn size_in_chunk(chunk: &mut impl Lendable<u8>, offset: u64) -> Answer {
+    unsafe { evtx_size_in_chunk(chunk.pointer(), chunk.length(), offset) }
+}
+
+pub fn size_in_bytes(bytes: &mut impl Lendable<u8>, offset: u64) -> Answer {
+    unsafe { evtx_size_in_bytes(bytes.pointer(), bytes.length(), offset) }
+}
+
+pub fn free_space_offset(chunk: &mut impl Lendable<u8>) -> Found {
+    unsafe { evtx_free_space_offset(chunk.pointer(), chunk.length()) }
+}

@@ -5,7 +5,7 @@ use first_reader::answers::{Answer, Fields, Found, Stretch, Text};
 use first_reader::calls::evtx_search_bytes;
 use guard_pages::fenced::{Edge, Fenced, EDGES};
 use log_writer::{frame, put, Random, CHUNK, DATA};
-use second_reader::binxml::{read_record, record_text};
+use second_reader::binxml::{record_text, text_length};
 use second_reader::{header, record};
 use std::collections::BTreeSet;
 use std::os::unix::process::ExitStatusExt;
@@ -79,12 +79,14 @@ fn each_input(ask: fn(&[u8], &mut Fenced)) {
 }
 
 #[test]
-fn header_checks() {
+fn header_checks_and_free_space() {
     each_input(|bytes, input| {
         let expected = Answer::without_length(header::check_file_header(bytes));
         assert_eq!(first_reader::check_file_header(input), expected);
         let expected = Answer::without_length(header::check_chunk(bytes));
         assert_eq!(first_reader::check_chunk(input), expected);
+        let expected: Found = header::free_space_offset(bytes).into();
+        assert_eq!(first_reader::free_space_offset(input), expected);
     });
 }
 
@@ -136,9 +138,13 @@ fn next_records() {
 }
 
 #[test]
-fn stretches_and_fields() {
+fn sizes_stretches_and_fields() {
     each_input(|bytes, input| {
         for offset in some_offsets(bytes, 120) {
+            let expected: Answer = record::size_in_chunk(bytes, offset).into();
+            assert_eq!(first_reader::size_in_chunk(input, offset), expected);
+            let expected: Answer = record::size_in_bytes(bytes, offset).into();
+            assert_eq!(first_reader::size_in_bytes(input, offset), expected);
             let expected: Stretch = record::record_stretch(bytes, offset).into();
             assert_eq!(first_reader::record_stretch(input, offset), expected);
             let expected: Fields = record::record_fields(bytes, offset).into();
@@ -158,10 +164,12 @@ fn text(chunk: &[u8], input: &mut Fenced, offset: u64, room: usize, edge: Edge) 
     assert!(holds(&out, &text) && input.now() == chunk && input.rest_kept());
 }
 
-/// Rooms that are none, odd, and around the length of the text.
-fn rooms(chunk: &[u8], offset: u64) -> BTreeSet<usize> {
+/// Asks for the length of the text. Answers rooms that are none, odd, and around it.
+fn rooms(chunk: &[u8], input: &mut Fenced, offset: u64) -> BTreeSet<usize> {
+    let expected = text_length(chunk, offset).map_err(|refusal| refusal.number);
+    assert_eq!(first_reader::text_length(input, offset), Text::from(expected));
     let mut rooms = BTreeSet::from([0, 1, 777, 65_536]);
-    if let Ok(length) = read_record(chunk, offset, 0).length {
+    if let Ok(length) = expected {
         let length = (length as usize).min(1 << 20);
         rooms.extend([length.saturating_sub(1), length, length + 1]);
     }
@@ -180,7 +188,7 @@ fn texts() {
         for edge in EDGES {
             let mut input = Fenced::input(&question.chunk, edge);
             for offset in question.offsets.iter().take(12) {
-                for room in rooms(&question.chunk, *offset) {
+                for room in rooms(&question.chunk, &mut input, *offset) {
                     for edge in EDGES {
                         text(&question.chunk, &mut input, *offset, room, edge);
                     }

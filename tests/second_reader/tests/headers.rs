@@ -5,7 +5,7 @@ mod common;
 use common::*;
 use log_writer::*;
 use second_reader::checksum::crc32;
-use second_reader::header::{check_chunk, check_file_header};
+use second_reader::header::{check_chunk, check_file_header, free_space_offset};
 
 #[test]
 fn checksum() {
@@ -77,6 +77,18 @@ fn chunk_length_and_free_space() {
             seal_sums(&mut chunk);
         }
         assert_eq!(check_chunk(&chunk), number);
+    }
+}
+
+#[test]
+fn the_free_space_offset_of_any_chunk() {
+    assert_eq!(free_space_offset(&sound_chunk()), Ok(640));
+    assert_eq!(free_space_offset(&[0xff; 65_536]), Ok(4_294_967_295));
+    let mut chunk = vec![0xff; 65_536];
+    put(&mut chunk, 48, &[1, 2, 3, 4]);
+    assert_eq!(free_space_offset(&chunk), Ok(0x0403_0201));
+    for length in [0, 52, 65_535, 65_537] {
+        assert_eq!(free_space_offset(&vec![0; length]), Err(1));
     }
 }
 

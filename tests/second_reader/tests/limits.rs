@@ -5,7 +5,7 @@ mod common;
 
 use common::*;
 use log_writer::*;
-use second_reader::binxml::{read_record, record_text};
+use second_reader::binxml::{read_record, record_text, text_length};
 use second_reader::numbers::Refusal;
 
 fn answer(chunk: &[u8]) -> Result<usize, Refusal> {
@@ -153,6 +153,7 @@ fn a_long_text_is_counted_and_not_stored() {
     let reading = read_record(&chunk, 512, 100);
     assert_eq!(reading.length, Ok(length));
     assert_eq!(reading.text.len(), 100);
+    assert_eq!(text_length(&chunk, 512), Ok(length));
     assert_eq!(record_text(&chunk, 512, length - 1), Err(Refusal::without_place(13)));
     assert_eq!(record_text(&chunk, 512, length).unwrap().len() as u64, length);
 }
@@ -162,6 +163,6 @@ fn a_long_text_is_counted_and_not_stored() {
 fn a_text_longer_than_32_bits_can_say() {
     let (chunk, length) = long_text(50, 1_200, 15_000);
     assert!(length > u64::from(u32::MAX));
-    assert_eq!(read_record(&chunk, 512, 100).length, Ok(length));
+    assert_eq!(text_length(&chunk, 512), Ok(length));
     assert_eq!(record_text(&chunk, 512, 100), Err(Refusal::without_place(13)));
 }

@@ -32,6 +32,8 @@ fn offsets_near_the_end_of_numbers() {
         assert_eq!(next_in_bytes(&chunk, offset), Err(7));
         assert_eq!(record_stretch(&chunk, offset), Err(7));
         assert_eq!(record_fields(&chunk, offset), Err(7));
+        assert_eq!(size_in_chunk(&chunk, offset), Err(7));
+        assert_eq!(size_in_bytes(&chunk, offset), Err(7));
     }
 }
 
@@ -43,10 +45,24 @@ fn lengths_that_are_refused() {
         assert_eq!(next_in_chunk(&chunk, 512), Err(1));
         assert_eq!(record_stretch(&chunk, 512), Err(1));
         assert_eq!(record_fields(&chunk, 512), Err(1));
+        assert_eq!(size_in_chunk(&chunk, 512), Err(1));
     }
     assert_eq!(search_bytes(&vec![0; 16_777_216], 9), Ok(vec![]));
     assert_eq!(search_bytes(&vec![0; 16_777_217], 9), Err(1));
     assert_eq!(next_in_bytes(&vec![0; 16_777_217], 9), Err(1));
+    assert_eq!(size_in_bytes(&vec![0; 16_777_217], 9), Err(1));
+}
+
+#[test]
+fn sizes_of_records() {
+    for (at, in_chunk) in [(0, Err(7)), (511, Err(7)), (512, Ok(40)), (65_496, Ok(40))] {
+        let chunk = chunk_with(at, &sized(40));
+        assert_eq!(size_in_chunk(&chunk, at as u64), in_chunk);
+        assert_eq!(size_in_bytes(&chunk, at as u64), Ok(40));
+        assert_eq!(size_in_bytes(&chunk, at as u64 + 1), Err(7));
+    }
+    assert_eq!(size_in_bytes(&sized(40)[..39], 0), Err(7));
+    assert_eq!(size_in_bytes(&[], 0), Err(7));
 }
 
 #[test]

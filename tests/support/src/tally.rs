@@ -13,12 +13,6 @@ impl Tally {
         *self.calls.entry(call).or_default().entry(number).or_default() += 1;
     }
 
-    /// Those of the expected numbers that no call answered.
-    pub fn never_reached(&self, expected: &[u32]) -> Vec<u32> {
-        let reached = |number: &u32| self.calls.values().any(|counts| counts.contains_key(number));
-        expected.iter().copied().filter(|number| !reached(number)).collect()
-    }
-
     /// Those of the expected numbers that this call never answered.
     pub fn never_answered(&self, call: &str, expected: &[u32]) -> Vec<u32> {
         let counts = self.calls.get(call);

@@ -94,16 +94,17 @@ fn quotation_marks(outer: usize, inner: usize, units: usize) -> Vec<u8> {
     chunk
 }
 
+/// 7 + 30 * (7 + 25 * 1,000 * 6) bytes.
 fn long_texts() -> Vec<Question> {
-    let name = "6: a text of 4,500,000 bytes";
-    vec![Question::refused(name, quotation_marks(30, 25, 1_000), 13)]
+    let name = "6: a text of 4,500,217 bytes";
+    vec![Question::long(name, quotation_marks(30, 25, 1_000), 4_500_217)]
 }
 
 /// 7 + 47 * (7 + 1,200 * 12,692 * 6) bytes, that is, 2^32 + 5,840: cut to 32
 /// bits, its length would fit the room.
 pub fn longest() -> Vec<Question> {
     let name = "6: a text of 4,294,973,136 bytes";
-    vec![Question::refused(name, quotation_marks(47, 1_200, 12_692), 13)]
+    vec![Question::long(name, quotation_marks(47, 1_200, 12_692), 4_294_973_136)]
 }
 
 /// An element with attribute a, of what `name` writes, left out, and then b.

@@ -1,7 +1,7 @@
-//! One question to both readers: the text of each record it asks for, with rooms
-//! around the text's length.
+//! One question to both readers: the length of the text of each record it asks
+//! for, and the text with rooms around that length.
 
-use compare::texts::{lendable_length, with_room, Answer};
+use compare::texts::{self, with_room, Answer};
 use compare::trial::Trial;
 use compare_text::question::{Expected, Question};
 use second_reader::numbers::NO_ROOM;
@@ -14,21 +14,20 @@ const LARGE: usize = 65_536;
 /// Compares both readers, and the answer by hand if there is one.
 pub fn compare(question: &Question, tally: &mut Tally) -> Outcome {
     let mut trial = Trial::new(&question.chunk, &question.behind, question.seed, tally);
+    let expected = question.expected.as_ref();
     for offset in &question.offsets {
-        for room in rooms(question, *offset) {
-            let hand = question.expected.as_ref().map(|expected| by_hand(expected, room));
+        let length = texts::length(&mut trial, *offset, expected.map(Expected::length))?;
+        for room in rooms(length) {
+            let hand = expected.map(|expected| by_hand(expected, room));
             with_room(&mut trial, *offset, room, hand)?;
         }
     }
     Ok(())
 }
 
-fn rooms(question: &Question, offset: u64) -> BTreeSet<usize> {
-    let length = match &question.expected {
-        Some(Expected::Text(text)) => Some(text.len()),
-        Some(Expected::Refused(_)) => None,
-        None => lendable_length(&question.chunk, offset),
-    };
+/// Rooms for a text of the length that the first reader answered: a text that is
+/// refused for want of room is written where there is room for that length.
+fn rooms(length: Option<usize>) -> BTreeSet<usize> {
     let mut rooms = BTreeSet::from([0, LARGE]);
     if let Some(length) = length {
         rooms.extend([length.saturating_sub(1), length, length + 1, length + 300]);
@@ -42,8 +41,8 @@ fn rooms(question: &Question, offset: u64) -> BTreeSet<usize> {
 /// The answer by hand for a room.
 fn by_hand(expected: &Expected, room: usize) -> Answer {
     match expected {
-        Expected::Text(text) if text.len() > room => Err(NO_ROOM),
-        Expected::Text(text) => Ok(text.clone()),
+        Expected::Text(text) if text.len() <= room => Ok(text.clone()),
+        Expected::Text(_) | Expected::Long(_) => Err(NO_ROOM),
         Expected::Refused(number) => Err(*number),
     }
 }
