@@ -1,8 +1,8 @@
 #!/usr/bin/env bash
 # Compares both readers for so many minutes on inputs that libFuzzer makes, guided by the edges of the second reader that they reach:
 # fuzz.sh MINUTES. The last line says how many inputs were compared and how many edges reached. It stops at the first input on which the
-# readers differ, or that ends the program, with status 1 and the name of the file that keeps the input. target/fuzz keeps the inputs that
-# reached something new, with which the next run begins.
+# readers differ, or that ends the program, with status 1 and the name of the file that keeps the input, to be given to
+# target/tests/release/fuzz. target/fuzz/inputs keeps the inputs that reached something new, with which the next run begins.
 set -u
 cd "$(dirname "$0")/.." || exit 1
 minutes=${1:?minutes are wanted}
@@ -35,10 +35,13 @@ inputs=$(sed -nE 's/^stat::number_of_executed_units: +([0-9]+)$/\1/p' "$log")
 reached=$(sed -nE 's/^#[0-9]+.* cov: ([0-9]+) .*/\1/p' "$log" | tail -n 1)
 edges=$(sed -nE 's/.*Loaded 1 modules +\(([0-9]+) inline 8-bit counters\).*/\1/p' "$log")
 kept=$(sed -nE 's/.*Test unit written to (.*)$/\1/p' "$log" | tail -n 1)
-told="fuzz: ${inputs:-0} inputs compared, ${reached:-0} of ${edges:-0} edges of the second reader reached"
+told="fuzz: ${inputs:-0} inputs compared, edges not yet counted"
+[ -n "$reached" ] && told="fuzz: $inputs inputs compared, $reached of $edges edges of the second reader reached"
 if [ $status -ne 0 ] || [ -n "$kept" ] || [ "${inputs:-0}" -eq 0 ]; then
-    grep -vE '^#|^INFO|^stat::|^NOTE' "$log" | tail -n 40
-    echo "$told, stopped with status $status; the input is kept in ${kept:-no file}; again: target/tests/release/fuzz ${kept:-FILE}"
+    what="stopped with status $status"
+    grep -q '^DIFFERENCE' "$log" && what="1 differs"
+    sed -nE '/^DIFFERENCE|panicked|ERROR: libFuzzer/,/ #0 /p' "$log" | grep -v ' #0 '
+    echo "$told, $what; $log has more; the input is kept in ${kept:-no file}"
     exit 1
 fi
 echo "$told, none differs"

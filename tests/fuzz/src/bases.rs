@@ -1,7 +1,7 @@
 //! The chunks and the file header that the bytes of an input are laid over.
 
 use compare_text::generated::{seal, sound_chunk, Stock};
-use log_writer::{file_header as written_header, Random, CHUNK, HEADER};
+use log_writer::{file_header as written_header, Random, CHUNK, DATA, HEADER};
 use std::sync::OnceLock;
 use support::generate::seal_file_header;
 use support::samples::{read_sample, SAMPLES};
@@ -10,10 +10,15 @@ const SEED: u64 = 0x0065_7674_7800_0006;
 /// How many chunks are generated, each with names and definitions to point to.
 const GENERATED: usize = 24;
 
-/// A chunk of zeros, the full ones of the samples, and generated ones.
+/// A chunk of zeros, the full ones of the samples, generated ones, and a sound
+/// one without records.
 pub fn all() -> &'static [Vec<u8>] {
     static BASES: OnceLock<Vec<Vec<u8>>> = OnceLock::new();
-    BASES.get_or_init(|| [vec![vec![0; CHUNK]], of_samples(), generated()].concat())
+    BASES.get_or_init(|| {
+        let mut empty = vec![0; CHUNK];
+        seal(&mut empty, DATA);
+        [vec![vec![0; CHUNK]], of_samples(), generated(), vec![empty]].concat()
+    })
 }
 
 pub fn base(number: u8) -> &'static [u8] {
@@ -39,7 +44,7 @@ fn generated() -> Vec<Vec<u8>> {
     let stock = Stock::of_boundaries();
     let mut one = || {
         let mut made = sound_chunk(&mut random, &stock, 12);
-        let free = made.records.last().map_or(512, |placed| placed.offset + placed.size);
+        let free = made.records.last().map_or(DATA, |placed| placed.offset + placed.size);
         seal(&mut made.chunk, free);
         made.chunk
     };

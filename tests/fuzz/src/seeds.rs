@@ -1,11 +1,12 @@
 //! The inputs that a fuzzer begins with: the records of the chunks that inputs
-//! are laid over, generated questions, headers, and loose bytes.
+//! are laid over, generated questions, headers, sizes at the bounds, and loose
+//! bytes.
 
 use crate::form::{pieces, Calls, Form, Head, CALLS, HEADER_SEALED, LONG, SEALED, SHORT};
 use crate::{bases, LONGEST};
 use compare_text::generated;
 use compare_text::hand;
-use log_writer::{Random, CHUNK, DATA};
+use log_writer::{frame, Random, CHUNK, DATA};
 use second_reader::record::{record_stretch, search_chunk};
 use support::generate::{dense_bytes, sound_file_header};
 
@@ -21,6 +22,7 @@ pub fn all() -> Vec<Vec<u8>> {
     let mut seeds = records();
     seeds.extend(questions());
     seeds.extend(headers());
+    seeds.extend(bounds());
     seeds.extend(loose());
     seeds.retain(|seed| seed.len() <= LONGEST);
     seeds
@@ -80,6 +82,21 @@ fn headers() -> Vec<Vec<u8>> {
         }
         let head = Head { flags, ..head(Form::FileHeader, 0, Calls::Checks) };
         seeds.push(head.input(&file[..128]));
+    }
+    seeds
+}
+
+/// Records of the smallest and the largest size, and one byte beyond, from the
+/// lowest offset and the one below it.
+fn bounds() -> Vec<Vec<u8>> {
+    let mut seeds = Vec::new();
+    for size in [27, 28, 65_024, 65_025] {
+        for offset in [DATA - 1, DATA] {
+            let mut chunk = vec![0; CHUNK];
+            frame(&mut chunk, offset, size);
+            let asked = |calls| Head { offset: offset as u64, ..head(Form::Pieces, 0, calls) };
+            seeds.extend(CALLS.map(|calls| asked(calls).input(&pieces(&chunk, 0))));
+        }
     }
     seeds
 }
