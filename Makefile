@@ -71,11 +71,10 @@ clean: ## removes all that was built; what was proved has to be proved again
 	@rm -rf target tests/target examples/rust/target
 
 # $(call prove,COMMAND,LOG): passes on which crates are proved, as rt says so. All that it says is in the log, whose end is shown if rt fails.
-# grep fails where it has no line to pass on, or cannot; cat takes what is left, so that rt is not ended by a closed pipe.
 define prove
 @mkdir -p target
 @echo "make: the proofs are made first, which takes some minutes the first time" >&2
-@$(1) 2>&1 | tee $(2) | { grep --line-buffered '^rt: [^ ]* proved (' >&2 || cat >/dev/null; } || { tail -n 20 $(2) >&2; exit 1; }
+@$(1) 2>&1 | tee $(2) | bash packaging/progress.sh || { tail -n 20 $(2) >&2; exit 1; }
 @touch $@
 endef
 
