@@ -73,8 +73,9 @@ rm "$made/tree/fails"
 answers "make list" 0 'listing of x' "$first"$'\nrt: a proved (1 s)\nrt: c proved (2 s)' make list LOG=x
 answers "make list once more" 0 'listing of x' '' make list LOG=x
 same "all that rt said is in the log" 4 "$(grep -c '' "$made/tree/target/program.log")"
+# Whether a second pause ends before the last line comes is by chance.
 same "a long proof" $'rt: a proved (1 s)\nmake: still proving\nrt: b proved (2 s)' \
-    "$(slowly | bash packaging/progress.sh 2 2>&1 | sed 's/proving, [0-9]* s so far/proving/')"
+    "$(slowly | bash packaging/progress.sh 2 2>&1 | sed 's/proving, [0-9]* s so far/proving/' | uniq)"
 same "no word of a long proof where none is" $'rt: a proved (1 s)\nrt: b proved (2 s)' "$(slowly | bash packaging/progress.sh 2>&1)"
 same "a closed standard error" 0 "$({ slowly | bash packaging/progress.sh 2>&-; echo "${PIPESTATUS[0]}"; } 2>&1)"
 rm -rf "$made"
