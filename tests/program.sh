@@ -228,6 +228,9 @@ failing_output() {
     says 'a full disk' 1 "$no_space" '"$@" samples/panel.evtx >/dev/full'
     says 'a full disk, two files' 1 "$no_space" '"$@" samples/panel.evtx samples/windows.evtx >/dev/full'
     says 'a full disk, two long files' 1 "$no_space" '"$@" $made/long.evtx $made/long.evtx >/dev/full'
+    holds 'output that fails within a listing, two files' 1 'evtx_list: standard output: File too large' \
+        '(trap "" XFSZ; ulimit -f 8; "$@" samples/panel.evtx samples/windows.evtx >$made/cut); status=$?; cat $made/cut; exit $status' \
+        < <(headed samples/panel.evtx | head -c 8192)
     says 'a full disk, --help' 1 "$no_space" '"$@" --help >/dev/full'
     says 'a full disk, --version' 1 "$no_space" '"$@" --version >/dev/full'
     # The signal of a pipe that nobody reads ends the program, and its front with it, as it does other programs.

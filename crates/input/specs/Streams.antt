@@ -1,9 +1,11 @@
--- What a listing asks of the operating system, and the checksums of what goes through its streams.
+-- What a listing asks of the operating system, and the numbers that it keeps of what goes through its streams.
 --     Event : a read or a write
 --     after : the streams after some events
+--     tookAll : whether every write was done, by the streams
 use mathlib.Core.Bool.{Bool}
 use mathlib.Core.List.{List, [], _∷_}
 use Prim.Native.Nat.{ℕ, _+_}
+use lib.Dec.{eqb}
 use lib.ListN.{replicate, getD, set}
 use Rattle.rules.specs.Bytes.{if_then_else_}
 use Rattle.fletcher.specs.Sums.{withNumber, summed}
@@ -15,13 +17,13 @@ pub data Event : Type 0 where
   write : List ℕ → Bool → Event
 
 -- The numbers that a listing keeps of its streams: two sums of all bytes that were taken from reads, each with the room it had and then its
--- descriptor, and two of all that were handed to writes, each with what it answered.
+-- descriptor; two of all that were handed to writes, each with what it answered; and 1 if some write was not done, else 0.
 abbrev pub Streams : Type 0
 Streams = List ℕ
 
 -- nothing has been read or written
 abbrev pub nothing : Streams
-nothing = replicate 4 0
+nothing = replicate 5 0
 
 -- numbers of which two, at a place, are sums, when some more bytes and then a number have gone into them
 abbrev pub summedAt : List ℕ → ℕ → List ℕ → ℕ → List ℕ
@@ -33,15 +35,23 @@ summedAt numbers at bytes last =
 abbrev pub mark : Bool → ℕ
 mark done = if done then 1 else 0
 
+-- a write that was not done is noted
+abbrev pub noted : Streams → Bool → Streams
+noted s done = if done then s else set s 4 1
+
 -- these bytes more were taken from a read of an input with room for n, or handed to a write
 abbrev pub afterRead : Streams → ℕ → ℕ → List ℕ → Streams
 afterRead s input n bytes = summedAt (summedAt s 0 bytes n) 0 [] input
 
 abbrev pub afterWrite : Streams → List ℕ → Bool → Streams
-afterWrite s bytes done = summedAt s 2 bytes (mark done)
+afterWrite s bytes done = noted (summedAt s 2 bytes (mark done)) done
 
 -- the streams after these events
 abbrev pub after : Streams → List Event → Streams
 after s [] = s
 after s (read input n bytes ∷ es) = after (afterRead s input n bytes) es
 after s (write bytes done ∷ es) = after (afterWrite s bytes done) es
+
+-- no write is noted that was not done
+abbrev pub tookAll : Streams → Bool
+tookAll s = eqb (getD s 4 0) 0
