@@ -3,7 +3,9 @@
 use libc::STDERR_FILENO;
 use libc::STDIN_FILENO;
 use libc::STDOUT_FILENO;
+ghost use mathlib.Core.Path.{_≡_};
 ghost use Rattle.io.specs.Counts.{Counts};
+ghost use Rattle.evtx_list.specs.Inputs.{openedAt};
 
 // An input that can be read, by its descriptor; or it cannot, which was told.
 pub(crate) enum Opened {
@@ -58,7 +60,9 @@ fn can_read(descriptor: i32) -> bool {
     libc::read(descriptor, &mut none) == 0
 }
 
-fn opened_at(descriptor: i32) -> Opened {
+fn opened_at(descriptor: i32) -> Opened
+    ensures { λ r. ⌜ r ≡ openedAt descriptor ⌝ }
+{
     if descriptor < 0 {
         return Opened::Not;
     }

@@ -8,7 +8,7 @@ ghost use mathlib.Core.Path.{_≡_};
 ghost use Prim.Native.Nat.{_+_, _≤_, _<_};
 ghost use lib.ListN.{length, take};
 ghost use Rattle.io.specs.Counts.{Counts};
-ghost use Rattle.input.specs.Streams.{nothing, summedAt, mark, noted, afterRead, afterWrite, tookAll};
+ghost use Rattle.input.specs.Streams.{nothing, descriptorOf, summedAt, mark, noted, afterRead, afterWrite, tookAll};
 use fletcher::Sums;
 use libc::STDERR_FILENO;
 use libc::STDOUT_FILENO;
@@ -40,7 +40,9 @@ fn add(numbers: &mut [u64], at: usize, bytes: &[u8], last: u64)
 }
 
 // The system's descriptor of an input; one that no file has where the number is none.
-fn descriptor(input: u64) -> i32 {
+fn descriptor(input: u64) -> i32
+    ensures { λ r. ⌜ r ≡ descriptorOf input ⌝ }
+{
     if input < 2147483648 { input as i32 } else { -1 }
 }
 
