@@ -64,7 +64,7 @@ install: $(program) $(archive) $(shared) ## installs programs, libraries, header
 	@sed -e 's|@PREFIX@|$(PREFIX)|' -e 's|@VERSION@|$(VERSION)|' packaging/evtx.pc.in >target/evtx.pc
 	@bash packaging/install.sh install "$(root)" $(installed)
 
-uninstall: ## removes what make install put there, with the same PREFIX and DESTDIR, and the folders that it made if they are empty
+uninstall: ## removes what make install put there, with the same PREFIX and DESTDIR, and its folders if they are empty and target/ has the note of them
 	@bash packaging/install.sh uninstall "$(root)" $(installed)
 
 clean: ## removes all that was built; what was proved has to be proved again
