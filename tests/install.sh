@@ -144,20 +144,59 @@ completion() {
     completed "evtx_list a sam" 'compopt -o default' evtx_list a sam
 }
 
+front_help() {
+    cat <<'END'
+usage: evtx [--help | --version | help | list [FILE..]]
+
+Reads Windows XML event logs (EVTX).
+
+  evtx list [FILE..]  lists the records of each FILE, or of standard input (-);
+                      evtx list --help says more
+  evtx help, --help   writes this text
+  evtx --version      writes the version
+
+Exit status: 1 if anything was said on standard error, else 0; 2 for wrong
+arguments of evtx itself; 128 and the signal's number if a signal ended it.
+END
+}
+
+list_help() {
+    cat <<'END'
+usage: evtx_list [--help | --version | FILE..]
+
+Lists Windows XML event logs (EVTX): a line for the file header, one for each
+chunk, and one for each record, with its offset in the chunk, its number, and
+its text or the number of its refusal.
+
+  FILE       a log; - is standard input, which is also listed without a FILE
+  --help     writes this help
+  --version  writes the version
+
+Where there are several, the listing of each begins with the line FILE: .
+What cannot be read or written is told on standard error. The manual page
+evtx_list(1) says what the numbers mean.
+END
+}
+
 words_of_the_front() {
     answers "evtx" 2 '' "$front_usage" "$evtx"
     answers "evtx lists" 2 '' 'evtx: lists: no such subcommand; evtx help lists them' "$evtx" lists samples/panel.evtx
     answers "evtx -x" 2 '' 'evtx: -x: no such subcommand; evtx help lists them' "$evtx" -x
-    same "the first line of evtx help" "$front_usage" "$("$evtx" help | head -n 1)"
-    answers "evtx --help" 0 "$("$evtx" help)" '' "$evtx" --help
-    same "the first line of evtx list --help" "$usage" "$("$evtx" list --help | head -n 1)"
-    answers "evtx list --help" 0 "$("$tree/bin/evtx_list" --help)" '' "$evtx" list --help
+    answers "evtx help" 0 "$(front_help)" '' "$evtx" help
+    answers "evtx --help" 0 "$(front_help)" '' "$evtx" --help
+    answers "evtx list --help" 0 "$(list_help)" '' "$evtx" list --help
     answers "evtx list --wrong" 1 '' "$usage" "$evtx" list --wrong
 }
 
 listings() {
     answers "evtx list" 0 "$listing" '' "$evtx" list samples/panel.evtx
     answers "evtx found by PATH" 0 "$listing" '' env PATH="$tree/bin:$PATH" evtx list samples/panel.evtx
+    ln -s "$evtx" "$made/link" && ln -s link "$made/second link" || stop "no links can be made"
+    answers "evtx by a symbolic link" 0 "$listing" '' "$made/link" list samples/panel.evtx
+    answers "evtx by a link to a link, found by PATH" 0 "$listing" '' env PATH="$made:$PATH" "second link" list samples/panel.evtx
+    answers "evtx list of descriptor 4" 0 "$listing" '' sh -c '"$0" list /dev/fd/4 4<samples/panel.evtx' "$evtx"
+    answers "evtx list of descriptor 3" 1 '' 'evtx_list: /dev/fd/3: No such file or directory' \
+        sh -c '"$0" list /dev/fd/3 3<samples/panel.evtx' "$evtx"
     answers "evtx list of standard input" 0 "$listing" '' sh -c '"$0" list <samples/panel.evtx' "$evtx"
     answers "evtx list of a pipe" 0 "$listing" '' sh -c 'cat samples/panel.evtx | "$0" list -' "$evtx"
     answers "evtx list of a missing file" 1 '' 'evtx_list: nofile: No such file or directory' "$evtx" list nofile
