@@ -19,6 +19,7 @@ build() {
     cargo build --quiet --release --offline --manifest-path tests/Cargo.toml --target-dir "$@" || fail "the program cannot be built"
 }
 
+[[ $minutes =~ ^[1-9][0-9]*$ ]] || fail "minutes are wanted, 1 or more"
 [ -f target/staticlib/libevtx_c.a ] || fail "no archive in target/: run make test"
 command -v clang >/dev/null 2>&1 || fail "clang is not installed: libFuzzer comes with it (Debian: clang, libclang-rt-14-dev)"
 build target/tests -p fuzz
