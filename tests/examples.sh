@@ -296,9 +296,9 @@ unread() {
     fi
 }
 
-# manners NAME NUMBERS LONG COMMAND..: of a file that cannot be read and an output that cannot be written the example NAME says what the system
+# tells_failures NAME NUMBERS LONG COMMAND..: of a file that cannot be read and an output that cannot be written the example NAME says what the system
 # says; Rust adds the system's NUMBERS. LONG is a log of which it writes more than a pipe holds.
-manners() {
+tells_failures() {
     local name=$1 numbers=$2 long=$3
     shift 3
     told "$name, missing file" 1 "$name: nofile: No such file or directory${numbers:+ (os error 2)}" "$@" nofile
@@ -318,11 +318,11 @@ wrong_arguments() {
 failures() {
     local long=$made/long.evtx python="python3 examples/python/list.py" name
     { cat samples/panel.evtx && for _ in $(seq 20); do tail -c +4097 samples/panel.evtx; done; } >"$long"
-    manners list '' "$long" plain "$made/shared/list"
-    manners carve '' "$long" plain "$made/shared/carve"
-    manners text '' "$made/longtext.evtx" one_text
-    manners list.py '' "$long" plain $python
-    manners evtx_safe numbers "$long" plain "$rust"
+    tells_failures list '' "$long" plain "$made/shared/list"
+    tells_failures carve '' "$long" plain "$made/shared/carve"
+    tells_failures text '' "$made/longtext.evtx" one_text
+    tells_failures list.py '' "$long" plain $python
+    tells_failures evtx_safe numbers "$long" plain "$rust"
     for name in list carve; do
         told "$name, closed output" 1 "$name: standard output: Bad file descriptor" to_closed "$made/shared/$name" "$long"
     done
