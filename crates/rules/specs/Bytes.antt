@@ -1,11 +1,11 @@
 -- Bytes and the numbers that they hold. A list of bytes is a list of numbers; all numbers in the files are little-endian.
 use mathlib.Core.Bool.{Bool, true, false, _&&_}
 use mathlib.Core.List.{List, [], _∷_}
-use Prim.Native.Nat.{ℕ, _+_, _*_}
+use Prim.Native.Nat.{ℕ, _+_, _*_, _<_}
 use Prim.Native.Char.{code}
 use Prim.Native.String.{String}
 use lib.Dec.{eqb}
-use lib.ListN.{take, drop}
+use lib.ListN.{take, drop, getD}
 
 infixr 10 if_then_else_
 abbrev pub if_then_else_ {ℓ} : {A : Type ℓ} → Bool → A → A → A
@@ -31,6 +31,16 @@ same [] [] = true
 same [] (y ∷ ys) = false
 same (x ∷ xs) [] = false
 same (x ∷ xs) (y ∷ ys) = eqb x y && same xs ys
+
+-- the first list holds the first bytes of the second
+abbrev pub begins : List ℕ → List ℕ → Bool
+begins [] ys = true
+begins (x ∷ xs) [] = false
+begins (x ∷ xs) (y ∷ ys) = eqb x y && begins xs ys
+
+-- every number of the list is a byte
+abbrev pub Octets : List ℕ → Type 0
+Octets b = (i : ℕ) → getD b i 0 < 256
 
 -- bytes of UTF-8
 abbrev pub Text : Type 0

@@ -4,6 +4,7 @@ pub mod Limits
 pub mod Checksum
 pub mod Headers
 pub mod Records
+pub mod Stream
 pub mod Reading
 pub mod Stretch
 pub mod Names
@@ -15,6 +16,7 @@ pub mod Elements
 pub mod Fragments
 pub mod RecordText
 pub mod Listing
+pub mod Carving
 pub mod Opened
 pub mod Samples
 pub mod EasyErrors

@@ -3,6 +3,7 @@ use Rattle.rules.specs.Checksum.{crcBit, crcBits, crcByte, crcOver, crc3
 use Rattle.rules.specs.Headers.{fileHeaderTests, checkFileHeader, chunkTests, checkChunk}
 use Rattle.rules.specs.Records.{whole, searchFrom, lowestFrom, searchChunk, searchBytes, nextInChunk, nextInBytes, ofRecord, stretchOf, stretchBytes}
 use Rattle.rules.specs.Records.{fieldsOf}
+use Rattle.rules.specs.Stream.{canGrow, walk, left, streamOf, streamCall, feed, close}
 use Rattle.rules.specs.Reading.{fetched}
 use Rattle.rules.specs.Stretch.{bytes, int, tested, fits, sized, token, tokenIfAny, lastToken, count, inStretch, within, times, inline, pointed}
 use Rattle.rules.specs.Names.{name}
@@ -15,6 +16,7 @@ use Rattle.rules.specs.Elements.{items, content, elementBody, elementOve
 use Rattle.rules.specs.Fragments.{preamble, descriptor, valuesOf, values, layout, definition, instance, fragmentBody, fragment, binXml, element}
 use Rattle.rules.specs.RecordText.{reading, read, textOf, touched}
 use Rattle.rules.specs.Listing.{recordLine, recordLines, chunkLines, restLine, chunksLines, listing}
+use Rattle.rules.specs.Carving.{carvedLines}
 
 unfoldable pub opened : Unit {0}
 unfolding crcBit crcBits crcByte crcOver crc32 fileHeaderTests checkFileHeader chunkTests checkChunk whole searchFrom lowestFrom searchChunk searchBytes
@@ -23,5 +25,5 @@ unfolding crcBit crcBits crcByte crcOver crc32 fileHeaderTests checkFileHeader c
     row inYear dateFrom dateOf dateText clockText timeText fileTimeText fileTime sysTime boolText guidText hexText authorityText subsText sid types valueText
     literal substitution valueRead piece pieces attributeText attribute attributes attributeList itemValue item items content elementBody elementOver preamble
     descriptor valuesOf values layout definition instance fragmentBody fragment binXml element reading read textOf touched recordLine recordLines chunkLines
-    restLine chunksLines listing
+    restLine chunksLines listing canGrow walk left streamOf streamCall feed close carvedLines
 opened = tt
