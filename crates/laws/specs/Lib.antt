@@ -8,3 +8,7 @@ pub mod Decoding
 pub mod Calendar
 pub mod Times
 pub mod Tables
+pub mod Octets
+pub mod Grows
+pub mod Walks
+pub mod Packets
