@@ -3,3 +3,4 @@ pub mod Split
 pub mod Widths
 pub mod Comparing
 pub mod Numbers
+pub mod Next

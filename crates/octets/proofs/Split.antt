@@ -1,6 +1,6 @@
 -- A number in m + n bytes is the number in the first m, and the number in the next n that many bytes higher: one law for every
 -- width, and for bytes that are not there.
-use mathlib.Core.Path.{_≡_, refl}
+use mathlib.Core.Path.{_≡_, refl, ap}
 use mathlib.Core.Bool.{Bool, true, false}
 use mathlib.Core.List.{List, [], _∷_}
 use Prim.Native.Nat.{ℕ, zero, suc, _+_, _*_, _-_, _^_, _≤_, min}
@@ -20,6 +20,10 @@ take-split (suc m) n (x ∷ l) = rw (suc-add m n, pow-suc) (omega (arith, take-s
 -- the law
 pub number-split : (i m n : ℕ) (l : List ℕ) → numberAt i (m + n) l ≡ numberAt i m l + 256 ^ m * numberAt (i + m) n l
 number-split i m n l = rw (← drop-drop m i l) (take-split m n (drop i l))
+
+-- a number in what stands from s on
+pub number-from : (s i n : ℕ) (l : List ℕ) → numberAt i n (drop s l) ≡ numberAt (s + i) n l
+number-from s i n l = ap (λ (d : List ℕ). number (take n d)) (drop-drop i s l)
 
 -- one byte
 pub number-one : (i : ℕ) (l : List ℕ) → numberAt i 1 l ≡ getD l i 0
