@@ -1,8 +1,9 @@
-/* EVTX reader: the calls that read headers, chunks and records of Windows XML event logs, and write the text of a record.
+/* EVTX reader: the calls that read headers, chunks and records of Windows XML event logs, search what comes in packets, and write the text
+ * of a record.
  *
  * Numbers. Every answer begins with one of these:
  *    0  done
- *    1  file header not 4,096 bytes; chunk not 65,536; bytes to search over 16,777,216
+ *    1  file header not 4,096 bytes; chunk or store not 65,536; bytes to search over 16,777,216; packet over 65,536; stream over 2^40
  *    2  magic wrong
  *    3  version not 3.1
  *    4  a fixed header field wrong
@@ -15,17 +16,25 @@
  *   11  value type not supported there, or its size or content wrong
  *   12  over a depth or count limit
  *   13  output room too small
+ *   14  a call after the closing one
  * A refused call answers its number and zeros, and leaves all memory as it was. enum evtx_number has a name for each number, and
  * evtx_message a sentence.
  *
- * Memory. A call reads the bytes that it is lent and nothing else, and writes only to `offsets` or `out`. No call keeps a pointer. The buffers
- * of one call must not overlap. A pointer must not be null, also where its length is 0: then it may point to anything, and nothing is
- * read or written. An input may have any length and any content.
+ * Memory. A call reads the bytes that it is lent and nothing else, and writes only to `offsets`, `out`, `list` or `store`. No call keeps a
+ * pointer. The buffers of one call must not overlap. A pointer must not be null, also where its length is 0: then it may point to anything,
+ * and nothing is read or written. An input may have any length and any content, and so may a store.
  *
  * Room. EVTX_MOST_RECORDS_OF_CHUNK entries are enough for evtx_search_chunk, and EVTX_MOST_RECORDS_OF_BYTES for evtx_search_bytes: with
- * them neither answers 13. For a text no room is always enough: whoever is answered 13 asks evtx_text_length.
+ * them neither answers 13. EVTX_MOST_NUMBERS_OF_FEED numbers are enough for evtx_feed and evtx_close. For a text no room is always enough:
+ * whoever is answered 13 asks evtx_text_length.
  *
- * Offsets are counted from the first byte of the chunk, or of the bytes, that the call is lent.
+ * Offsets are counted from the first byte of the chunk, or of the bytes, that the call is lent; places from the first byte of the stream.
+ *
+ * Streams. evtx_feed searches bytes that come in packets, evtx_close ends the stream. What one call leaves for the next is in `store`, which
+ * the caller keeps: EVTX_STORE_SIZE bytes, all zero before the first call, handed to each call as the last one left them. Each stream has a
+ * store of its own. Its numbers are little-endian: how many bytes were taken stands in its bytes 0 to 7, where the bytes that are still open
+ * begin, counted from byte 16, in 8 and 9, and how many they are in 10 and 11; they are the last of the stream, and where they would leave
+ * the store they end with it. The stream is closed if byte 12 is not 0. Nothing is said of the other bytes. Any content is read in this way.
  *
  * The rules in full, with every test in its order, every limit and the text of every type of value, are in docs/RULES.md of the sources. */
 #ifndef EVTX_H
@@ -34,9 +43,9 @@
 #include <stddef.h>
 #include <stdint.h>
 
-#define EVTX_VERSION "0.2.0"
+#define EVTX_VERSION "0.3.0"
 #define EVTX_VERSION_MAJOR 0
-#define EVTX_VERSION_MINOR 2
+#define EVTX_VERSION_MINOR 3
 #define EVTX_VERSION_PATCH 0
 
 /* How many bytes a file header has, and a chunk. */
@@ -49,6 +58,14 @@
 /* The most records that a search lists: of a chunk, and of EVTX_MOST_BYTES loose bytes. */
 #define EVTX_MOST_RECORDS_OF_CHUNK 2322
 #define EVTX_MOST_RECORDS_OF_BYTES 599186
+
+/* How many bytes the store of a stream has, and at most a packet, and all packets of a stream together. */
+#define EVTX_STORE_SIZE 65536
+#define EVTX_MOST_PACKET 65536
+#define EVTX_MOST_STREAM (UINT64_C(1) << 40)
+
+/* The most numbers that evtx_feed or evtx_close writes: two for each record of 28 bytes, in 65,520 bytes of a store and a packet. */
+#define EVTX_MOST_NUMBERS_OF_FEED 9360
 
 /* With it the compiler warns where a pointer is a null that it can see. */
 #if defined(__GNUC__)
@@ -75,7 +92,8 @@ enum evtx_number {
     EVTX_NO_SUCH_VALUE,
     EVTX_WRONG_VALUE,
     EVTX_OVER_LIMIT,
-    EVTX_ROOM_TOO_SMALL = 13
+    EVTX_ROOM_TOO_SMALL = 13,
+    EVTX_AFTER_CLOSING = 14
 };
 
 /* length is a count of what the call says; 0 in a refusal */
@@ -130,6 +148,22 @@ evtx_answer evtx_search_chunk(const uint8_t *chunk, size_t chunk_len, uint32_t *
  * enough. Answers 0, 1 or 13. */
 evtx_answer evtx_search_bytes(const uint8_t *bytes, size_t bytes_len, uint32_t *offsets, size_t room) EVTX_NONNULL;
 
+/* The same for a stream of loose bytes, with a call for each packet: it lists the records that no later bytes, however many, can undo, and
+ * that no call before has listed. However the bytes are cut, the records of all calls, and then of evtx_close, are those of the search over
+ * the joined bytes, which are up to 2^40 here. A packet has 0 to 65,536 bytes.
+ * `list` gets two numbers for each record: its place in the stream and its size. list_len counts the numbers, of which an odd last one is not
+ * used; EVTX_MOST_NUMBERS_OF_FEED (9,360) are always enough. Answers 0 with the count of records: their numbers stand at the front of `list`,
+ * in rising order of places, and the rest of it is as it was. Answers 1 if the packet has over 65,536 bytes, the stream with it over 2^40, or
+ * the store another length than 65,536; then 14 after evtx_close; then 13 if there are more records than `list` has room for. A refused
+ * packet is not taken: `list` and `store` are as they were. After 13 the same packet can be fed again with a longer list. */
+evtx_answer evtx_feed(const uint8_t *packet, size_t packet_len, uint8_t *store, size_t store_len, uint64_t *list,
+                      size_t list_len) EVTX_NONNULL;
+
+/* Ends the stream, and lists the rest of its records: those that bytes which did not come could have undone. It takes no bytes. Answers as
+ * evtx_feed does: 0 with the count of records; 1 if the store has another length, or says that over 2^40 bytes were taken; 14 after
+ * evtx_close; or 13, after which it can be called again with a longer list. For another stream the store is filled with zeros again. */
+evtx_answer evtx_close(uint8_t *store, size_t store_len, uint64_t *list, size_t list_len) EVTX_NONNULL;
+
 /* The lowest whole record of a chunk at or after `from`, listed by the search or not; from 512 on if `from` is below it. Answers 0 with
  * its offset, 1, or 7 if none stands there. */
 evtx_found evtx_next_in_chunk(const uint8_t *chunk, size_t chunk_len, uint64_t from) EVTX_NONNULL;
@@ -167,7 +201,7 @@ static inline const char *evtx_message(uint32_t number)
 {
     static const char *const messages[] = {
         "done",
-        "file header not 4,096 bytes, chunk not 65,536, or bytes to search over 16,777,216",
+        "file header not 4,096 bytes, chunk or store not 65,536, bytes to search over 16,777,216, packet over 65,536, or stream over 2^40",
         "magic wrong",
         "version not 3.1",
         "a fixed header field wrong",
@@ -180,6 +214,7 @@ static inline const char *evtx_message(uint32_t number)
         "value type not supported there, or its size or content wrong",
         "over a depth or count limit",
         "output room too small",
+        "a call after the closing one",
     };
     return number < sizeof messages / sizeof *messages ? messages[number] : "no number of this library";
 }

@@ -61,10 +61,11 @@ program() {
 }
 
 # calling CALL: a file that makes the call, with what its pointers may be.
+pointers='uint8_t *in, uint8_t *out, uint32_t *list, uint8_t *store, uint64_t *numbers'
 calling() {
     echo '#include "evtx.h"'
-    echo 'void f(uint8_t *in, uint8_t *out, uint32_t *list);'
-    echo "void f(uint8_t *in, uint8_t *out, uint32_t *list) { (void)in, (void)out, (void)list, (void)$1; }"
+    echo "void f($pointers);"
+    echo "void f($pointers) { (void)in, (void)out, (void)list, (void)store, (void)numbers, (void)$1; }"
 }
 
 # Every pointer of every call, in turn a null.
@@ -73,7 +74,7 @@ nulls() {
     while read -r call; do
         calling "$call" >"$made/call.c"
         accepted "$called, $call" "${compile[@]}" -fsyntax-only "$made/call.c"
-        for null in "${call/in,/NULL,}" "${call/out,/NULL,}" "${call/list,/NULL,}"; do
+        for null in "${call/in,/NULL,}" "${call/out,/NULL,}" "${call/list,/NULL,}" "${call/store,/NULL,}" "${call/numbers,/NULL,}"; do
             [ "$null" != "$call" ] || continue
             calling "$null" >"$made/call.c"
             refused "$called, $null" nonnull "${compile[@]}" -fsyntax-only "$made/call.c"
@@ -84,6 +85,8 @@ evtx_check_chunk(in, 8)
 evtx_free_space_offset(in, 8)
 evtx_search_chunk(in, 8, list, 8)
 evtx_search_bytes(in, 8, list, 8)
+evtx_feed(in, 8, store, 8, numbers, 8)
+evtx_close(store, 8, numbers, 8)
 evtx_next_in_chunk(in, 8, 0)
 evtx_next_in_bytes(in, 8, 0)
 evtx_size_in_chunk(in, 8, 0)

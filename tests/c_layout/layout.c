@@ -5,9 +5,9 @@
  *     layout              makes every check; the status is 0 exactly if all held
  *     layout --covered    writes the names of the structs, fields, calls and numbers that are checked; run.sh holds them to the header's
  *
- * Every value that is due was worked out by hand from document 01. A struct has a row in `structs` and one for each field in `fields`, a
- * number or another macro one in `numbers` or `versions`; a call has a row in `calls`, and the function named there tries it. VERSION_DUE
- * is the Makefile's version, as a string. */
+ * Every value that is due was worked out by hand from documents 01 and 02. A struct has a row in `structs` and one for each field in
+ * `fields`, a number or another macro one in `numbers` or `versions`; a call has a row in `calls`, and the function named there tries it.
+ * VERSION_DUE is the Makefile's version, as a string. */
 #define _DEFAULT_SOURCE
 #include <inttypes.h>
 #include <stdio.h>
@@ -100,12 +100,18 @@ static const struct {
     NUMBER(EVTX_WRONG_VALUE, 11),
     NUMBER(EVTX_OVER_LIMIT, 12),
     NUMBER(EVTX_ROOM_TOO_SMALL, 13),
+    NUMBER(EVTX_AFTER_CLOSING, 14),
     NUMBER(EVTX_FILE_HEADER_SIZE, 4096),
     NUMBER(EVTX_CHUNK_SIZE, 65536),
     NUMBER(EVTX_MOST_BYTES, 16777216),
     /* records of 28 bytes, in 65,024 bytes and in 16,777,216 */
     NUMBER(EVTX_MOST_RECORDS_OF_CHUNK, 2322),
     NUMBER(EVTX_MOST_RECORDS_OF_BYTES, 599186),
+    NUMBER(EVTX_STORE_SIZE, 65536),
+    NUMBER(EVTX_MOST_PACKET, 65536),
+    NUMBER(EVTX_MOST_STREAM, 1099511627776),
+    /* two for each of 4,680 records of 28 bytes, in 65,520 and 65,536 bytes */
+    NUMBER(EVTX_MOST_NUMBERS_OF_FEED, 9360),
 };
 
 static const char *const versions[] = { "EVTX_VERSION", "EVTX_VERSION_MAJOR", "EVTX_VERSION_MINOR", "EVTX_VERSION_PATCH" };
@@ -144,8 +150,14 @@ static void named(void)
 #define FAR 0x123456u
 #define BYTES (FAR + 28)
 
-static uint8_t *chunk, *bytes, *out;
+/* How many bytes of a stream came before; it takes 40 bits. What is fed is the chunk from its second record on, or held is that record. */
+#define TAKEN UINT64_C(0x89abcdef01)
+#define PACKET (CHUNK - SECOND)
+#define HELD (24 + STRETCH_LENGTH + 4)
+
+static uint8_t *chunk, *bytes, *out, *store;
 static uint32_t *offsets;
+static uint64_t *list;
 
 static void *reserve(size_t front, size_t whole)
 {
@@ -198,6 +210,8 @@ static void lend(void)
     put_record(bytes + FAR, 28, 4, 0);
     out = reserve(2 * CHUNK, BIT(LONGEST_BIT));
     offsets = reserve(CHUNK, sizeof(uint32_t) * BIT(LONGEST_BIT));
+    store = reserve(CHUNK, CHUNK + BIT(LONGEST_BIT));
+    list = reserve(CHUNK, sizeof(uint64_t) * BIT(LONGEST_BIT));
 }
 
 /* What a call answers, beside what is due. */
@@ -299,19 +313,19 @@ static void free_space_offset(const char *name)
 static void search(const char *name, evtx_answer (*call)(const uint8_t *, size_t, uint32_t *, size_t), const uint8_t *in, size_t length,
                    const uint32_t *due, size_t count)
 {
-    uint8_t list[32];
-    memset(list, KEPT, sizeof list);
+    uint8_t laid[32];
+    memset(laid, KEPT, sizeof laid);
     for (size_t i = 0; i < count; i++)
-        put(list + 4 * i, due[i], 4);
-    memset(offsets, KEPT, sizeof list);
+        put(laid + 4 * i, due[i], 4);
+    memset(offsets, KEPT, sizeof laid);
     answer(name, "one entry too few", call(in, length, offsets, count - 1), 13, 0);
     equal(name, "one entry too few", "first entry", offsets[0], 0xf9f9f9f9);
     answer(name, "just enough entries", call(in, length, offsets, count), 0, count);
-    equal(name, "just enough entries", "the list equals that due", memcmp(offsets, list, sizeof list) == 0, 1);
+    equal(name, "just enough entries", "the list equals that due", memcmp(offsets, laid, sizeof laid) == 0, 1);
     for (unsigned b = 2; b <= LONGEST_BIT; b++) {
-        memset(offsets, KEPT, sizeof list);
+        memset(offsets, KEPT, sizeof laid);
         answer(name, "a room of one bit", call(in, length, offsets, BIT(b)), 0, count);
-        equal(name, "a room of one bit", "the list equals that due", memcmp(offsets, list, sizeof list) == 0, 1);
+        equal(name, "a room of one bit", "the list equals that due", memcmp(offsets, laid, sizeof laid) == 0, 1);
     }
 }
 
@@ -332,6 +346,81 @@ static void search_bytes(const char *name)
     answer(name, "the last byte is missing", call(bytes, BYTES - 1, offsets, 8), 0, 1);
     for (unsigned b = 24; b <= LONGEST_BIT; b++)
         answer(name, "a length with one bit more", call(bytes, BYTES + BIT(b), offsets, 8), 1, 0);
+}
+
+/* A store that holds the second record, or no bytes, and a list without an answer. */
+static void put_stream(uint64_t taken, size_t held)
+{
+    memset(store, 0, CHUNK);
+    put(store, taken, 8);
+    put(store + 10, held, 2);
+    memcpy(store + 16, chunk + SECOND, held);
+    memset(list, KEPT, 64);
+}
+
+/* The list is looked at as bytes, eight for each number, and so is what the store says of the stream. */
+static void streamed(const char *name, const char *what, const uint64_t *due, size_t count, uint64_t taken, uint8_t closed)
+{
+    uint8_t laid[64];
+    memset(laid, KEPT, sizeof laid);
+    for (size_t i = 0; i < count; i++)
+        put(laid + 8 * i, due[i], 8);
+    equal(name, what, "the list equals that due", memcmp(list, laid, sizeof laid) == 0, 1);
+    put(laid, taken, 8);
+    equal(name, what, "the store has the total due", memcmp(store, laid, 8) == 0, 1);
+    equal(name, what, "the stream is closed", store[12] != 0, closed);
+}
+
+static void feed(const char *name)
+{
+    evtx_answer (*call)(const uint8_t *, size_t, uint8_t *, size_t, uint64_t *, size_t) = evtx_feed;
+    static const uint64_t due[] = { TAKEN, HELD, TAKEN + THIRD - SECOND, 28 };
+    put_stream(TAKEN, 0);
+    answer(name, "one number too few", call(chunk + SECOND, PACKET, store, CHUNK, list, 3), 13, 0);
+    streamed(name, "one number too few", due, 0, TAKEN, 0);
+    answer(name, "just enough numbers", call(chunk + SECOND, PACKET, store, CHUNK, list, 4), 0, 2);
+    streamed(name, "just enough numbers", due, COUNT(due), TAKEN + PACKET, 0);
+    for (unsigned b = 2; b <= LONGEST_BIT; b++) {
+        put_stream(TAKEN, 0);
+        answer(name, "a room of one bit", call(chunk + SECOND, PACKET, store, CHUNK, list, BIT(b)), 0, 2);
+        streamed(name, "a room of one bit", due, COUNT(due), TAKEN + PACKET, 0);
+    }
+    put_stream(TAKEN, 0);
+    for (unsigned b = 0; b <= LONGEST_BIT; b++) {
+        answer(name, "a packet with one bit more", call(chunk, CHUNK + BIT(b), store, CHUNK, list, 8), 1, 0);
+        answer(name, "a store with one bit more", call(chunk, CHUNK, store, CHUNK + BIT(b), list, 8), 1, 0);
+    }
+    for (unsigned b = 0; b < 64; b++) {
+        put_stream(BIT(b), 0);
+        answer(name, "a total of one bit", call(chunk + SECOND, PACKET, store, CHUNK, list, 8), b >= 40, b < 40 ? 2 : 0);
+    }
+    store[12] = 0x80;
+    put(store, TAKEN, 8);
+    answer(name, "after closing", call(chunk, CHUNK, store, CHUNK, list, 8), 14, 0);
+}
+
+static void close_stream(const char *name)
+{
+    evtx_answer (*call)(uint8_t *, size_t, uint64_t *, size_t) = evtx_close;
+    static const uint64_t due[] = { TAKEN - HELD, HELD };
+    put_stream(TAKEN, HELD);
+    answer(name, "one number too few", call(store, CHUNK, list, 1), 13, 0);
+    streamed(name, "one number too few", due, 0, TAKEN, 0);
+    answer(name, "just enough numbers", call(store, CHUNK, list, 2), 0, 1);
+    streamed(name, "just enough numbers", due, COUNT(due), TAKEN, 1);
+    answer(name, "after closing", call(store, CHUNK, list, 2), 14, 0);
+    for (unsigned b = 1; b <= LONGEST_BIT; b++) {
+        put_stream(TAKEN, HELD);
+        answer(name, "a room of one bit", call(store, CHUNK, list, BIT(b)), 0, 1);
+        streamed(name, "a room of one bit", due, COUNT(due), TAKEN, 1);
+    }
+    put_stream(TAKEN, HELD);
+    for (unsigned b = 0; b <= LONGEST_BIT; b++)
+        answer(name, "a store with one bit more", call(store, CHUNK + BIT(b), list, 8), 1, 0);
+    for (unsigned b = 0; b < 64; b++) {
+        put_stream(BIT(b), HELD);
+        answer(name, "a total of one bit", call(store, CHUNK, list, 8), b > 40, b <= 40);
+    }
 }
 
 static void next_in_chunk(const char *name)
@@ -453,18 +542,19 @@ static void text_length(const char *name)
         text(name, "a length with one bit more", call(chunk, CHUNK + BIT(b), FIRST), 1, 0);
 }
 
-/* The header has this one whole. 14 is the first number that no call answers. */
+/* The header has this one whole. 15 is the first number that no call answers. */
 static void message(const char *name)
 {
     const char *(*call)(uint32_t) = evtx_message;
-    for (uint32_t m = 0; m < 14; m++) {
+    for (uint32_t m = 0; m < 15; m++) {
         equal(name, "a number of an answer", "it has a text", call(m)[0] != '\0', 1);
-        for (uint32_t n = m + 1; n <= 14; n++)
+        for (uint32_t n = m + 1; n <= 15; n++)
             equal(name, "two numbers", "their texts differ", strcmp(call(m), call(n)) != 0, 1);
     }
     for (unsigned b = 4; b < 32; b++)
-        equal(name, "a number of one bit, above 13", "its text is that of 14", strcmp(call((uint32_t)BIT(b)), call(14)) == 0, 1);
-    equal(name, "the largest number", "its text is that of 14", strcmp(call(UINT32_MAX), call(14)) == 0, 1);
+        equal(name, "a number of one bit, above 14", "its text is that of 15", strcmp(call((uint32_t)BIT(b)), call(15)) == 0, 1);
+    equal(name, "the largest number", "its text is that of 15", strcmp(call(UINT32_MAX), call(15)) == 0, 1);
+    equal(name, "14", "its text is that due", strcmp(call(14), "a call after the closing one") == 0, 1);
 }
 
 static const struct {
@@ -476,6 +566,8 @@ static const struct {
     { "evtx_free_space_offset", free_space_offset },
     { "evtx_search_chunk", search_chunk },
     { "evtx_search_bytes", search_bytes },
+    { "evtx_feed", feed },
+    { "evtx_close", close_stream },
     { "evtx_next_in_chunk", next_in_chunk },
     { "evtx_next_in_bytes", next_in_bytes },
     { "evtx_size_in_chunk", size_in_chunk },

@@ -1,9 +1,11 @@
 // The C interface: each call of the library under its C name, with its answer as a struct of numbers. include/evtx.h declares it.
 ghost use mathlib.Core.Path.{_≡_};
+ghost use Prim.Native.Nat.{_/_};
 ghost use lib.ListN.{length};
 ghost use Rattle.rules.specs.Answers.{Answered};
 ghost use Rattle.rules.specs.Headers.{checkFileHeader, checkChunk, freeSpaceOf};
 ghost use Rattle.rules.specs.Records.{searchChunk, searchBytes, nextInChunk, nextInBytes, sizeInChunk, sizeInBytes, stretchOf, fieldsOf};
+ghost use Rattle.rules.specs.Stream.{feed, close, StreamAnswered};
 ghost use Rattle.rules.specs.RecordText.{textOf};
 ghost use Rattle.record.specs.Asked.{nextMeaning, sizeMeaning};
 ghost use Rattle.binxml.specs.Text.{wholeText};
@@ -128,6 +130,34 @@ pub extern "C" fn evtx_search_bytes(bytes: &[u8], offsets: &mut [u32]) -> EvtxAn
         (r .length) ⌝ }
 {
     search_answer(search::search_bytes(bytes, offsets))
+}
+
+// The answer of a call on a stream.
+fn stream_answer(answer: stream::StreamAnswer) -> EvtxAnswer
+    ensures { λ r. ⌜ (r .number ≡ answer .number) × (r .length ≡ answer .count) ⌝ }
+{
+    EvtxAnswer {
+        number: answer.number,
+        length: answer.count as u64,
+    }
+}
+
+// Takes a packet of a stream, and lists the records that no later bytes can undo.
+#[no_mangle]
+pub extern "C" fn evtx_feed(packet: &[u8], store: &mut [u8], list: &mut [u64]) -> EvtxAnswer
+    ensures { λ r. ⌜ StreamAnswered (feed (now (store .entry)) (now (packet .entry)) (length (now (list .entry)) / 2)) (now (list .entry))
+        (now (list .exit)) (now (store .entry)) (now (store .exit)) (r .number) (r .length) ⌝ }
+{
+    stream_answer(stream::feed(packet, store, list))
+}
+
+// Closes a stream, and lists the rest of its records.
+#[no_mangle]
+pub extern "C" fn evtx_close(store: &mut [u8], list: &mut [u64]) -> EvtxAnswer
+    ensures { λ r. ⌜ StreamAnswered (close (now (store .entry)) (length (now (list .entry)) / 2)) (now (list .entry)) (now (list .exit))
+        (now (store .entry)) (now (store .exit)) (r .number) (r .length) ⌝ }
+{
+    stream_answer(stream::close(store, list))
 }
 
 // The next record of a chunk.
