@@ -5,5 +5,6 @@ pub mod headers;
 pub mod nexts;
 pub mod records;
 pub mod searches;
+pub mod streams;
 pub mod texts;
 pub mod trial;

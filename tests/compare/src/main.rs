@@ -4,11 +4,14 @@
 //! `compare [--seed NUMBER]`: the inputs follow from NUMBER, or from a fixed one.
 
 mod cases;
+mod fed;
 mod hand;
+mod hand_streams;
 
 use cases::{Calls, Case};
 use compare::trial::Trial;
-use compare::{headers, nexts, records, searches};
+use compare::{headers, nexts, records, searches, streams};
+use fed::Differing;
 use std::path::Path;
 use std::process::ExitCode;
 use support::difference::{report, Difference, Origin, Outcome};
@@ -17,12 +20,14 @@ use support::seed::take_seed;
 use support::tally::Tally;
 
 /// What each call must have answered in the end.
-const EXPECTED: [(&str, &[u32]); 11] = [
+const EXPECTED: [(&str, &[u32]); 13] = [
     ("evtx_check_file_header", &[0, 1, 2, 3, 4, 5]),
     ("evtx_check_chunk", &[0, 1, 2, 4, 5, 6]),
     (headers::FREE_SPACE_OFFSET, &[0, 1]),
     ("evtx_search_chunk", &[0, 1, 13]),
     ("evtx_search_bytes", &[0, 1, 13]),
+    (streams::FEED, &[0, 1, 13, 14]),
+    (streams::CLOSE, &[0, 1, 13, 14]),
     ("evtx_next_in_chunk", &[0, 1, 7]),
     ("evtx_next_in_bytes", &[0, 1, 7]),
     (records::SIZE_IN_CHUNK, &[0, 1, 7]),
@@ -61,7 +66,15 @@ fn by_hand(tally: &mut Tally) -> Option<usize> {
             return None;
         }
     }
-    Some(cases.len())
+    let streams = hand_streams::all();
+    for case in &streams {
+        if let Err(difference) = hand_streams::compare(case, tally) {
+            let origin = Origin { kind: case.name, seed: 0, part: 0, bytes: &case.bytes() };
+            report_input(&difference, &origin);
+            return None;
+        }
+    }
+    Some(cases.len() + streams.len())
 }
 
 /// Asks about what is generated. Answers how many inputs there were, if all agree.
@@ -71,6 +84,17 @@ fn generated(base: u64, tally: &mut Tally) -> Option<usize> {
         Err((case, difference)) => {
             let Case { kind, seed, part, bytes, .. } = &case;
             report_input(&difference, &Origin { kind, seed: *seed, part: *part, bytes });
+            None
+        }
+    }
+}
+
+/// Feeds streams in packets. Answers how many there were, if all agree.
+fn in_packets(base: u64, tally: &mut Tally) -> Option<usize> {
+    match fed::compare_all(base, tally) {
+        Ok(count) => Some(count),
+        Err(Differing { kind, seed, part, bytes, difference }) => {
+            report_input(&difference, &Origin { kind, seed, part, bytes: &bytes });
             None
         }
     }
@@ -101,10 +125,11 @@ fn main() -> ExitCode {
     let Some(hand) = by_hand(&mut tally) else { return ExitCode::FAILURE };
     let base = seed.unwrap_or(cases::SEED);
     let Some(cases) = generated(base, &mut tally) else { return ExitCode::FAILURE };
+    let Some(fed) = in_packets(base, &mut tally) else { return ExitCode::FAILURE };
     print!("{tally}");
     if !complete(&tally) {
         return ExitCode::FAILURE;
     }
-    println!("{} inputs, {} answers, no difference", hand + cases, tally.total());
+    println!("{} inputs, {} answers, no difference", hand + cases + fed, tally.total());
     ExitCode::SUCCESS
 }

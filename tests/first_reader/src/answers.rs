@@ -3,7 +3,8 @@
 
 use second_reader::record;
 
-/// What a check, a search or a call for a record's size answers.
+/// What a check, a search, a packet, the end of a stream or a call for a record's
+/// size answers.
 #[repr(C)]
 #[derive(Clone, Copy, Debug, PartialEq, Eq)]
 pub struct Answer {

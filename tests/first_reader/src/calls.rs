@@ -20,6 +20,20 @@ extern "C" {
         offsets: *mut u32,
         room: usize,
     ) -> Answer;
+    pub fn evtx_feed(
+        packet: *const u8,
+        length: usize,
+        store: *mut u8,
+        store_length: usize,
+        list: *mut u64,
+        list_length: usize,
+    ) -> Answer;
+    pub fn evtx_close(
+        store: *mut u8,
+        store_length: usize,
+        list: *mut u64,
+        list_length: usize,
+    ) -> Answer;
     pub fn evtx_next_in_chunk(chunk: *const u8, length: usize, from: u64) -> Found;
     pub fn evtx_next_in_bytes(bytes: *const u8, length: usize, from: u64) -> Found;
     pub fn evtx_record_stretch(chunk: *const u8, length: usize, offset: u64) -> Stretch;

@@ -61,6 +61,27 @@ pub fn search_bytes(bytes: &mut impl Lendable<u8>, list: &mut impl Lendable<u32>
     unsafe { evtx_search_bytes(bytes.pointer(), bytes.length(), list.pointer(), list.length()) }
 }
 
+pub fn feed(
+    packet: &mut impl Lendable<u8>,
+    store: &mut impl Lendable<u8>,
+    list: &mut impl Lendable<u64>,
+) -> Answer {
+    unsafe {
+        evtx_feed(
+            packet.pointer(),
+            packet.length(),
+            store.pointer(),
+            store.length(),
+            list.pointer(),
+            list.length(),
+        )
+    }
+}
+
+pub fn close(store: &mut impl Lendable<u8>, list: &mut impl Lendable<u64>) -> Answer {
+    unsafe { evtx_close(store.pointer(), store.length(), list.pointer(), list.length()) }
+}
+
 pub fn next_in_chunk(chunk: &mut impl Lendable<u8>, from: u64) -> Found {
     unsafe { evtx_next_in_chunk(chunk.pointer(), chunk.length(), from) }
 }

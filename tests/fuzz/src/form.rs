@@ -47,9 +47,16 @@ pub enum Calls {
     Searches,
     /// The next record from the offset on.
     Nexts,
+    /// The bytes as a stream: the first packet has as many of them as the offset
+    /// says, the others have as many as the room says.
+    Packets,
+    /// A store that begins with the first bytes, holds as many of the others as
+    /// the offset says, and is fed the rest; and its end.
+    Store,
 }
 
-pub const CALLS: [Calls; 4] = [Calls::Record, Calls::Checks, Calls::Searches, Calls::Nexts];
+pub const CALLS: [Calls; 6] =
+    [Calls::Record, Calls::Checks, Calls::Searches, Calls::Nexts, Calls::Packets, Calls::Store];
 
 #[derive(Clone, Copy, Debug)]
 pub struct Head {

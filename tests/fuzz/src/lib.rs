@@ -3,6 +3,7 @@
 
 mod bases;
 mod form;
+mod packets;
 pub mod seeds;
 
 use compare::trial::Trial;
@@ -19,14 +20,18 @@ pub const LONGEST: usize = 4_096;
 pub fn one_input(input: &[u8], tally: &mut Tally) -> Outcome {
     let (head, rest) = Head::split(input);
     let Lent { bytes, behind } = head.form.lent(&head, rest);
-    let trial = &mut Trial::new(&bytes, &behind, head.room as u64, tally);
+    let mut trial = |compare: &dyn Fn(&mut Trial) -> Outcome| {
+        compare(&mut Trial::new(&bytes, &behind, head.room as u64, tally))
+    };
     match head.calls {
-        Calls::Record => {
+        Calls::Record => trial(&|trial| {
             records::compare(trial, head.offset)?;
             texts::compare(trial, head.offset, head.room)
-        }
-        Calls::Checks => headers::compare(trial),
-        Calls::Searches => searches::compare_room(trial, head.room),
-        Calls::Nexts => nexts::compare(trial, head.offset),
+        }),
+        Calls::Checks => trial(&headers::compare),
+        Calls::Searches => trial(&|trial| searches::compare_room(trial, head.room)),
+        Calls::Nexts => trial(&|trial| nexts::compare(trial, head.offset)),
+        Calls::Packets => packets::stream(&head, &bytes, tally),
+        Calls::Store => packets::store(&head, &bytes, tally),
     }
 }

@@ -1,12 +1,13 @@
 //! The inputs that a fuzzer begins with: the records of the chunks that inputs
-//! are laid over, generated questions, headers, sizes at the bounds, and loose
-//! bytes.
+//! are laid over, generated questions, headers, sizes at the bounds, loose bytes,
+//! and streams with stores.
 
 use crate::form::{pieces, Calls, Form, Head, CALLS, HEADER_SEALED, LONG, SEALED, SHORT};
+use crate::packets::STATED;
 use crate::{bases, LONGEST};
 use compare_text::generated;
 use compare_text::hand;
-use log_writer::{frame, Random, CHUNK, DATA};
+use log_writer::{frame, put, Random, CHUNK, DATA};
 use second_reader::record::{record_stretch, search_chunk};
 use support::generate::{dense_bytes, sound_file_header};
 
@@ -24,6 +25,7 @@ pub fn all() -> Vec<Vec<u8>> {
     seeds.extend(headers());
     seeds.extend(bounds());
     seeds.extend(loose());
+    seeds.extend(streams());
     seeds.retain(|seed| seed.len() <= LONGEST);
     seeds
 }
@@ -109,4 +111,43 @@ fn loose() -> Vec<Vec<u8>> {
         CALLS.map(|calls| Head { offset: 0, ..head(Form::Loose, 0, calls) }.input(&bytes))
     };
     (0..LOOSE).flat_map(|_| one()).collect()
+}
+
+/// Records of small sizes, right or with a wrong byte in the second one, with
+/// others in them: cut in several ways, and held by a store in part.
+fn streams() -> Vec<Vec<u8>> {
+    let mut random = Random::new(SEED);
+    let mut seeds = Vec::new();
+    for size in [27, 28, 60, 100] {
+        for wrong in 0..5 {
+            let mut bytes = dense_bytes(&mut random, size + 40);
+            frame(&mut bytes, 0, size);
+            if wrong < 4 {
+                bytes[size - 4 + wrong] ^= 1;
+            }
+            for (first, room) in [(0, 1), (5, 7), (size - 2, 1), (size, 400)] {
+                let asked =
+                    |calls| Head { offset: first as u64, room, ..head(Form::Loose, 0, calls) };
+                seeds.push(asked(Calls::Packets).input(&bytes));
+                let stated = stated(&mut random, first as u16);
+                seeds.push(asked(Calls::Store).input(&[&stated, &bytes[..]].concat()));
+            }
+        }
+    }
+    seeds
+}
+
+/// What the first bytes of a store say: how many were taken, where those that it
+/// holds begin, and how many they are, inside the store and at its bounds.
+fn stated(random: &mut Random, held: u16) -> [u8; STATED] {
+    const MOST: u64 = 1 << 40;
+    let near = MOST + 1 - random.below(140) as u64;
+    let total = random.pick(&[u64::from(held), 0, 70_000, near, MOST + 1, 1 << 41]);
+    let from = random.pick(&[0u16, 9, 300, 65_500, 65_520, 65_535]);
+    let length = random.pick(&[held, held, held, 65_535]);
+    let mut stated = [0; STATED];
+    put(&mut stated, 0, &total.to_le_bytes());
+    put(&mut stated, 8, &from.to_le_bytes());
+    put(&mut stated, 10, &length.to_le_bytes());
+    stated
 }

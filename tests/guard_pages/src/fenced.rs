@@ -3,6 +3,7 @@
 
 use first_reader::Lendable;
 use std::ffi::{c_int, c_void};
+use std::mem::size_of;
 use std::ptr::null_mut;
 
 const PAGE: usize = 4_096;
@@ -118,19 +119,25 @@ unsafe impl Lendable<u8> for Fenced {
     }
 }
 
-/// A list, of four bytes for each entry.
-// Safety: as for bytes, and they begin where an entry may.
-unsafe impl Lendable<u32> for Fenced {
-    fn pointer(&mut self) -> *mut u32 {
-        let list: *mut u32 = Fenced::pointer(self).cast();
-        assert!(list.is_aligned(), "the length of a list is a multiple of four");
-        list
-    }
+/// A list, of as many bytes for each entry as its type has.
+macro_rules! list_of {
+    ($($entry:ty),*) => {
+        // Safety: as for bytes, and they begin where an entry may.
+        $(unsafe impl Lendable<$entry> for Fenced {
+            fn pointer(&mut self) -> *mut $entry {
+                let list: *mut $entry = Fenced::pointer(self).cast();
+                assert!(list.is_aligned(), "the length of a list is a multiple of an entry's");
+                list
+            }
 
-    fn length(&self) -> usize {
-        self.length / 4
-    }
+            fn length(&self) -> usize {
+                self.length / size_of::<$entry>()
+            }
+        })*
+    };
 }
+
+list_of!(u32, u64);
 
 impl Drop for Fenced {
     fn drop(&mut self) {

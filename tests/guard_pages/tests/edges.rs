@@ -1,5 +1,5 @@
-//! Every call of the C interface on memory at the edge of a page that may not
-//! be touched, with the answers of the second reader.
+//! Every call of the C interface but those for streams, on memory at the edge of
+//! a page that may not be touched, with the answers of the second reader.
 
 use first_reader::answers::{Answer, Fields, Found, Stretch, Text};
 use first_reader::calls::evtx_search_bytes;

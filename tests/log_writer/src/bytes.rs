@@ -2,6 +2,10 @@
 
 pub const HEADER: usize = 4_096;
 pub const CHUNK: usize = 65_536;
+/// The store of a stream.
+pub const STORE: usize = 65_536;
+/// The longest packet.
+pub const PACKET: usize = 65_536;
 /// Where a chunk's header ends and its first record begins.
 pub const DATA: usize = 512;
 /// What a record begins with.

@@ -6,10 +6,12 @@ mod bytes;
 mod headers;
 mod random;
 mod records;
+mod stores;
 mod writer;
 
 pub use bytes::*;
 pub use headers::*;
 pub use random::Random;
 pub use records::*;
+pub use stores::*;
 pub use writer::*;

@@ -1,6 +1,6 @@
 //! The second reader of Windows XML event logs, with which the first is
-//! compared. It is written from document 01 and the published layouts alone and
-//! shares nothing with the first reader.
+//! compared. It is written from documents 01 and 02 and the published layouts alone
+//! and shares nothing with the first reader.
 #![forbid(unsafe_code)]
 
 pub mod binxml;
@@ -10,5 +10,6 @@ pub mod header;
 pub mod listing;
 pub mod numbers;
 pub mod record;
+pub mod stream;
 pub mod text;
 pub mod value;

@@ -15,6 +15,7 @@ pub const NO_SUCH_VALUE: u32 = 10;
 pub const WRONG_VALUE: u32 = 11;
 pub const OVER_LIMIT: u32 = 12;
 pub const NO_ROOM: u32 = 13;
+pub const AFTER_CLOSING: u32 = 14;
 
 pub const FILE_HEADER_LENGTH: usize = 4_096;
 pub const CHUNK_LENGTH: usize = 65_536;

@@ -33,6 +33,11 @@ impl<T: Copy + PartialEq> Lent<T> {
         &self.memory[self.start..self.start + self.length]
     }
 
+    /// The lent part alone, as it was.
+    pub fn before(&self) -> &[T] {
+        &self.before[self.start..self.start + self.length]
+    }
+
     /// The lent part holds `front` at its front; all else, guards included, is
     /// as it was.
     pub fn holds_only(&self, front: &[T]) -> bool {
@@ -41,6 +46,18 @@ impl<T: Copy + PartialEq> Lent<T> {
             && self.memory[..self.start] == self.before[..self.start]
             && self.memory[self.start..written] == *front
             && self.memory[written..] == self.before[written..]
+    }
+
+    /// What is not lent is as it was.
+    pub fn guards_kept(&self) -> bool {
+        let end = self.start + self.length;
+        self.memory[..self.start] == self.before[..self.start]
+            && self.memory[end..] == self.before[end..]
+    }
+
+    /// From here on what it holds now is what it held before.
+    pub fn renew(&mut self) {
+        self.before.copy_from_slice(&self.memory);
     }
 }
 
@@ -87,6 +104,17 @@ impl Lent<u32> {
     }
 }
 
+impl Lent<u64> {
+    /// A list of so many numbers, none of which is a place or a size.
+    pub fn numbers(length: usize) -> Lent<u64> {
+        let pattern = |from: u64, length: usize| -> Vec<u64> {
+            (0..length as u64).map(|index| (from + index) << 32 | !index & 0xffff_ffff).collect()
+        };
+        let front = pattern(0xA500_0000, GUARD);
+        Lent::new(front, &pattern(0xB500_0000, length), &pattern(0xC500_0000, GUARD))
+    }
+}
+
 #[cfg(test)]
 mod tests {
     use super::*;
@@ -104,6 +132,20 @@ mod tests {
         assert!(list.holds_only(&[7]));
         assert!(!list.holds_only(&[7, 8]));
         assert!(!list.holds_only(&[7; 5]));
+    }
+
+    #[test]
+    fn what_is_renewed_is_as_it_was() {
+        let mut list = Lent::numbers(4);
+        list.memory[GUARD + 2] = 7;
+        assert!(!list.holds_only(&[]) && list.guards_kept());
+        list.renew();
+        assert!(list.holds_only(&[]) && list.now()[2] == 7);
+        for touched in [0, GUARD - 1, GUARD + 4, 2 * GUARD + 3] {
+            let mut list = Lent::numbers(4);
+            list.memory[touched] ^= 1;
+            assert!(!list.guards_kept());
+        }
     }
 
     #[test]

@@ -1,10 +1,11 @@
 //! What several tests need: the bodies and chunks that they ask for, sound
-//! headers, and the samples.
+//! headers, streams, and the samples.
 #![allow(dead_code)]
 
 use log_writer::*;
 use second_reader::binxml::record_text;
 use second_reader::checksum::crc32;
+use second_reader::stream::{close, feed, Listed, Stream};
 
 pub fn writer_at(start: usize) -> Writer {
     Writer::filled(start, Filling::Usual)
@@ -59,6 +60,30 @@ pub fn seal_sums(chunk: &mut [u8]) {
     put_u32(chunk, 52, data_sum);
     let header_sum = crc32(&[&chunk[0..120], &chunk[128..512]]);
     put_u32(chunk, 124, header_sum);
+}
+
+/// A record of the given size, with both copies of it.
+pub fn sized(size: usize) -> Vec<u8> {
+    let mut bytes = vec![0x11; size];
+    frame(&mut bytes, 0, size);
+    bytes
+}
+
+/// Feeds the packets to a store of zeros, and closes. Answers what was listed
+/// by each call.
+pub fn fed(packets: &[&[u8]]) -> Vec<Vec<Listed>> {
+    let mut store = vec![0; STORE];
+    let mut lists = Vec::new();
+    for packet in packets {
+        let (listed, after) = feed(&store, packet, 9_999).unwrap();
+        lists.push(listed);
+        store = store_with(after.total, after.held.len() % 400, &after.held);
+    }
+    let (listed, after) = close(&store, 9_999).unwrap();
+    let total = packets.iter().map(|packet| packet.len() as u64).sum();
+    assert_eq!(after, Stream { total, closed: true, held: Vec::new() });
+    lists.push(listed);
+    lists
 }
 
 /// A file of the samples folder.
