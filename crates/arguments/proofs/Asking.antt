@@ -1,17 +1,19 @@
--- What a word asks for, from the answers of the tests in their order; and when two lists of bytes are the same.
+-- What a word asks for, and the program that a name is of, from the answers of the tests in their order; and when two lists of bytes are
+-- the same.
 use mathlib.Core.Path.{_≡_, refl, ap, sym, _∙_}
 use mathlib.Core.Bool.{Bool, true, false}
 use mathlib.Core.List.{List, [], _∷_}
-use Prim.Native.Nat.{ℕ, suc}
+use Prim.Native.Nat.{ℕ, suc, _-_, _≤_, _<_}
 use native.Mathlib.Omega.{arith}
 use lib.Dec.{eqb}
-use lib.ListN.{length, take}
+use lib.ListN.{length, take, drop, length-take, length-drop}
 use lib.Seq.{take-all}
 use Rattle.rules.specs.Bytes.{if_then_else_, part, same, ascii}
 use Rattle.laws.specs.Tests.{both}
+use Rattle.arguments.specs.declared.Program.the-variants.{List as Lists, Carve}
 use Rattle.arguments.specs.declared.Word.{Word}
 use Rattle.arguments.specs.declared.Word.the-variants.{Input, Help, Version, Unknown, File}
-use Rattle.arguments.specs.Words.{asked}
+use Rattle.arguments.specs.Words.{asked, called}
 
 -- lists that hold the same bytes have one length
 same-length : (xs ys : List ℕ) → same xs ys ≡ true → length xs ≡ length ys
@@ -54,3 +56,27 @@ module _ (w : List ℕ) where
         pub asked-file : same (take 1 w) (ascii "-") ≡ false → File ≡ asked w
         unfolding asked
         asked-file o = rw (i, h, v, o) refl
+
+-- The program by its name: alone, or at the end of a path; else it lists.
+module _ (w : List ℕ) where
+  abbrev last : List ℕ
+  last = part (length w - 11) 11 w
+
+  pub called-alone : same w (ascii "evtx_carve") ≡ true → Carve ≡ called w
+  unfolding called
+  called-alone a = rw a refl
+
+  module _ (a : same w (ascii "evtx_carve") ≡ false) where
+    pub called-path : same last (ascii "/evtx_carve") ≡ true → Carve ≡ called w
+    unfolding called
+    called-path p = rw (a, p) refl
+
+    pub called-other : same last (ascii "/evtx_carve") ≡ false → Lists ≡ called w
+    unfolding called
+    called-other p = rw (a, p) refl
+
+    -- fewer bytes than the path has at least
+    pub called-short : length w < 11 → Lists ≡ called w
+    called-short h =
+        let most : length last ≤ length w = omega (arith, length-take 11 (drop (length w - 11) w), length-drop (length w - 11) w) in
+        called-other (sym (not-same last (ascii "/evtx_carve") (λ e. omega (arith, e, most))))

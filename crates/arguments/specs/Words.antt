@@ -1,8 +1,11 @@
--- What a word of a command line asks for.
+-- What the words of a command line ask for.
+use mathlib.Core.Bool.{_||_}
 use mathlib.Core.List.{List}
-use Prim.Native.Nat.{ℕ}
-use lib.ListN.{take}
-use Rattle.rules.specs.Bytes.{if_then_else_, same, ascii}
+use Prim.Native.Nat.{ℕ, _-_}
+use lib.ListN.{length, take}
+use Rattle.rules.specs.Bytes.{if_then_else_, part, same, ascii}
+use Rattle.arguments.specs.declared.Program.{Program}
+use Rattle.arguments.specs.declared.Program.the-variants.{List as Lists, Carve}
 use Rattle.arguments.specs.declared.Word.{Word}
 use Rattle.arguments.specs.declared.Word.the-variants.{Input, Help, Version, Unknown, File}
 
@@ -14,3 +17,7 @@ asked w =
     else if same w (ascii "--version") then Version
     else if same (take 1 w) (ascii "-") then Unknown
     else File
+
+-- The name that a program was called by, a path or not: where its last part is `evtx_carve` it carves, else it lists.
+unfoldable pub called : List ℕ → Program
+called w = if same w (ascii "evtx_carve") || same (part (length w - 11) 11 w) (ascii "/evtx_carve") then Carve else Lists

@@ -1,7 +1,7 @@
-// What a word of a command line asks for, as the programs here read it.
+// What the words of a command line ask for, as the programs here read them.
 ghost use mathlib.Core.Path.{_≡_};
 ghost use Rattle.rules.specs.Bytes.{same};
-ghost use Rattle.arguments.specs.Words.{asked};
+ghost use Rattle.arguments.specs.Words.{asked, called as calledBy};
 
 // Standard input, the help, the version, something that no program here knows, or a file by its name.
 pub enum Word {
@@ -10,6 +10,12 @@ pub enum Word {
     Version,
     Unknown,
     File,
+}
+
+// The program that lists logs, or the one that carves records out of any bytes.
+pub enum Program {
+    List,
+    Carve,
 }
 
 // Whether these are the known bytes, and no more.
@@ -39,4 +45,20 @@ pub fn asks_for(bytes: &[u8]) -> Word
         return Word::Unknown;
     }
     Word::File
+}
+
+// The program that is called by a name, which may be a path.
+pub fn called(name: &[u8]) -> Program
+    ensures { λ r. ⌜ r ≡ calledBy (now (name .entry)) ⌝ }
+{
+    if is(name, b"evtx_carve") {
+        return Program::Carve;
+    }
+    if name.len() < 11 {
+        return Program::List;
+    }
+    if octets::same_at(name, name.len() - 11, b"/evtx_carve") {
+        return Program::Carve;
+    }
+    Program::List
 }

@@ -2,3 +2,4 @@
 pub mod Digits
 pub mod Counting
 pub mod Backwards
+pub mod Short

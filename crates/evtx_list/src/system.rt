@@ -1,5 +1,6 @@
-// What the program asks of the system beside the reads and the writes of a listing: its arguments, files by their names, and the lines that
-// it says of itself.
+// What the programs ask of the system beside the reads and the writes of a listing: their arguments, files by their names, and the lines that
+// they say of themselves.
+use arguments::Program;
 use libc::STDERR_FILENO;
 use libc::STDIN_FILENO;
 use libc::STDOUT_FILENO;
@@ -30,10 +31,23 @@ pub(crate) fn is_too_long() -> bool {
     os::errno() == libc::ENAMETOOLONG
 }
 
+// Says on standard error what the system gave as the reason that something failed, after the program's name.
+pub(crate) fn tell(program: Program, what: &[u8]) {
+    match program {
+        Program::List => {
+            io::write_all(STDERR_FILENO, b"evtx_list: ");
+        }
+        Program::Carve => {
+            io::write_all(STDERR_FILENO, b"evtx_carve: ");
+        }
+    }
+    os::fail(what);
+}
+
 // Whether the argument that was asked for last is whole in the memory. Where it is not, that is told.
-pub(crate) fn is_whole() -> bool {
+pub(crate) fn is_whole(program: Program) -> bool {
     if os::errno() != 0 {
-        os::fail(b"evtx_list: an argument");
+        tell(program, b"an argument");
         return false;
     }
     true
@@ -42,12 +56,6 @@ pub(crate) fn is_whole() -> bool {
 // Whether someone would have to type a log.
 pub(crate) fn is_terminal() -> bool {
     libc::isatty(STDIN_FILENO) == 1
-}
-
-// Says on standard error what the system gave as the reason that a name cannot be listed.
-fn tell(name: &[u8]) {
-    io::write_all(STDERR_FILENO, b"evtx_list: ");
-    os::fail(name);
 }
 
 // Whether there is a descriptor, and it can be read, which is asked by a read of no bytes: a directory, and an input that is closed, are no
@@ -71,22 +79,22 @@ fn opened_at(descriptor: i32) -> Opened
 }
 
 // The input with a descriptor. Where it cannot be read, that is told.
-fn input_of(descriptor: i32, name: &[u8]) -> Opened {
+fn input_of(program: Program, descriptor: i32, name: &[u8]) -> Opened {
     if !can_read(descriptor) {
-        tell(name);
+        tell(program, name);
         return Opened::Not;
     }
     opened_at(descriptor)
 }
 
-pub(crate) fn standard_input(name: &[u8]) -> Opened {
-    input_of(STDIN_FILENO, name)
+pub(crate) fn standard_input(program: Program, name: &[u8]) -> Opened {
+    input_of(program, STDIN_FILENO, name)
 }
 
 // Opens a file to be read.
-pub(crate) fn open(name: &[u8]) -> Opened {
+pub(crate) fn open(program: Program, name: &[u8]) -> Opened {
     let descriptor = os::open_read(name);
-    match input_of(descriptor, name) {
+    match input_of(program, descriptor, name) {
         Opened::At { input } => Opened::At { input },
         Opened::Not => {
             libc::close(descriptor);
@@ -95,48 +103,76 @@ pub(crate) fn open(name: &[u8]) -> Opened {
     }
 }
 
+// The system's descriptor of an input; one that no file has where the number is none.
+pub(crate) fn descriptor(input: u64) -> i32 {
+    if input < 2147483648 { input as i32 } else { -1 }
+}
+
 // Closes a file that was opened.
 pub(crate) fn close(opened: Opened) {
     match opened {
         Opened::Not => (),
         Opened::At { input } => {
-            if input < 2147483648 {
-                libc::close(input as i32);
-            }
+            libc::close(descriptor(input));
         }
     }
 }
 
-// Writes a line or more to standard output, which is not part of a listing, and answers whether that was done.
-fn say(text: &[u8]) -> bool {
+// Says on standard error that an input is longer than a stream may be.
+pub(crate) fn too_long(name: &[u8]) {
+    io::write_all(STDERR_FILENO, b"evtx_carve: ");
+    io::write_all(STDERR_FILENO, name);
+    io::write_all(STDERR_FILENO, b": longer than 1,099,511,627,776 bytes\n");
+}
+
+// Writes a line or more to standard output, and answers whether that was done.
+fn say(program: Program, text: &[u8]) -> bool {
     let done = io::write_all(STDOUT_FILENO, text);
     if !done {
-        os::fail(b"evtx_list: standard output");
+        tell(program, b"standard output");
     }
     done
 }
 
 // The line above the listing of one file among several.
-pub(crate) fn head(name: &[u8]) -> bool {
-    if !say(name) {
+pub(crate) fn head(program: Program, name: &[u8]) -> bool {
+    if !say(program, name) {
         return false;
     }
-    say(b":\n")
+    say(program, b":\n")
 }
 
-pub(crate) fn usage() {
-    io::write_all(
-        STDERR_FILENO,
-        b"usage: evtx_list [--help | --version | FILE..]\n",
-    );
+pub(crate) fn usage(program: Program) {
+    match program {
+        Program::List => {
+            io::write_all(
+                STDERR_FILENO,
+                b"usage: evtx_list [--help | --version | FILE..]\n",
+            );
+        }
+        Program::Carve => {
+            io::write_all(
+                STDERR_FILENO,
+                b"usage: evtx_carve [--help | --version | FILE..]\n",
+            );
+        }
+    }
 }
 
-pub(crate) fn version() {
-    say(b"evtx_list 0.2.0\n");
+pub(crate) fn version(program: Program) {
+    match program {
+        Program::List => {
+            say(program, b"evtx_list 0.3.0\n");
+        }
+        Program::Carve => {
+            say(program, b"evtx_carve 0.3.0\n");
+        }
+    }
 }
 
-pub(crate) fn help() {
+fn help_of_list(program: Program) {
     say(
+        program,
         b"\
 usage: evtx_list [--help | --version | FILE..]
 
@@ -153,4 +189,33 @@ What cannot be read or written is told on standard error. The manual page
 evtx_list(1) says what the numbers mean.
 ",
     );
+}
+
+fn help_of_carve(program: Program) {
+    say(
+        program,
+        b"\
+usage: evtx_carve [--help | --version | FILE..]
+
+Finds the whole records of Windows XML event logs (EVTX) in bytes of any size
+and origin, as a disk image or what a power cut left: a line for each record,
+with its place in the input and its size, as soon as later bytes cannot undo it.
+
+  FILE       what is searched; - is standard input, which is also searched
+             without a FILE
+  --help     writes this help
+  --version  writes the version
+
+Where there are several, the lines of each begin with the line FILE: .
+What cannot be read or written is told on standard error. The manual page
+evtx_carve(1) says what a whole record is.
+",
+    );
+}
+
+pub(crate) fn help(program: Program) {
+    match program {
+        Program::List => help_of_list(program),
+        Program::Carve => help_of_carve(program),
+    }
 }
