@@ -6,9 +6,11 @@ MINUTES ?=
 SEED ?=
 PREFIX ?= /usr/local
 DESTDIR ?=
-VERSION = 0.2.0
+VERSION = 0.3.0
 
 program = target/bin/evtx_list
+# The same program: it carves where it is called by this name.
+carver = target/bin/evtx_carve
 archive = target/staticlib/libevtx_c.a
 sources := crates.txt $(shell find crates -name '*.rt' -o -name '*.antt')
 root = $(DESTDIR)$(PREFIX)
@@ -22,6 +24,7 @@ completions = share/bash-completion/completions
 installed = \
 	bin/evtx:755:packaging/evtx \
 	bin/evtx_list:755:$(program) \
+	bin/evtx_carve:link:evtx_list \
 	include/evtx.h:644:include/evtx.h \
 	lib/libevtx_c.a:644:$(archive) \
 	lib/libevtx_c.so.$(VERSION):644:$(shared) \
@@ -30,10 +33,12 @@ installed = \
 	lib/pkgconfig/evtx.pc:644:target/evtx.pc \
 	share/man/man1/evtx.1:644:packaging/evtx.1 \
 	share/man/man1/evtx_list.1:644:packaging/evtx_list.1 \
+	share/man/man1/evtx_carve.1:644:packaging/evtx_carve.1 \
 	$(completions)/evtx:644:packaging/evtx.bash \
-	$(completions)/evtx_list:link:evtx
+	$(completions)/evtx_list:link:evtx \
+	$(completions)/evtx_carve:link:evtx
 
-.PHONY: help test list install uninstall clean compare examples bench soak fuzz
+.PHONY: help test list carve install uninstall clean compare examples bench soak fuzz
 .NOTPARALLEL:
 
 help: ## says what each target does
@@ -42,8 +47,11 @@ help: ## says what each target does
 test: ## proves every crate, tries the edits that must be refused and runs every check: the gate
 	@bash .ci/run
 
-list: $(program) ## lists samples/panel.evtx, or the log named by LOG=path
+list: $(program) $(carver) ## lists samples/panel.evtx, or the log named by LOG=path
 	@$(program) "$(LOG)"
+
+carve: $(carver) ## lists the whole records in the bytes of samples/panel.evtx, or of the file named by LOG=path
+	@$(carver) "$(LOG)"
 
 compare: $(program) ## compares our listing of LOG=path with the second reader's, and with those of public readers if installed
 	@bash tests/compare_log.sh $(program) "$(LOG)"
@@ -51,7 +59,7 @@ compare: $(program) ## compares our listing of LOG=path with the second reader's
 examples: $(program) $(archive) ## builds the examples in C, Rust and Python and compares what they write with what is due
 	@bash tests/examples.sh
 
-bench: $(program) $(archive) ## measures speed and memory beside other programs (docs/BENCHMARKS.md)
+bench: $(program) $(carver) $(archive) ## measures speed and memory beside other programs (docs/BENCHMARKS.md)
 	@$(MAKE) --no-print-directory -C bench
 
 soak: $(program) $(archive) ## compares both readers for MINUTES=n, each time with another seed, or once with SEED=s (docs/ENDURANCE.md)
@@ -81,6 +89,9 @@ endef
 # rt proves before it builds, one crate's run at a time. It leaves a file alone whose sources have changed in nothing but their time, hence the touch.
 $(program): $(sources)
 	$(call prove,rt check evtx_list,target/program.log)
+
+$(carver): $(program)
+	@ln -sfn evtx_list $@
 
 $(archive): $(sources)
 	$(call prove,rt staticlib evtx_c,target/archive.log)

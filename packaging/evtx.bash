@@ -1,7 +1,7 @@
-# Completion for bash, of evtx and evtx_list. It is installed under the name of each, by which bash-completion finds it.
+# Completion for bash, of evtx, evtx_list and evtx_carve. It is installed under the name of each, by which bash-completion finds it.
 
 # An option, or a file.
-_evtx_list() {
+_evtx_files() {
     COMPREPLY=()
     case ${COMP_WORDS[COMP_CWORD]} in
         -*) mapfile -t COMPREPLY < <(compgen -W '--help --version' -- "${COMP_WORDS[COMP_CWORD]}") ;;
@@ -13,11 +13,11 @@ _evtx_list() {
 _evtx() {
     COMPREPLY=()
     if [ "$COMP_CWORD" -eq 1 ]; then
-        mapfile -t COMPREPLY < <(compgen -W 'list help --help --version' -- "${COMP_WORDS[1]}")
-    elif [ "${COMP_WORDS[1]}" = list ]; then
-        _evtx_list
+        mapfile -t COMPREPLY < <(compgen -W 'list carve help --help --version' -- "${COMP_WORDS[1]}")
+    elif [ "${COMP_WORDS[1]}" = list ] || [ "${COMP_WORDS[1]}" = carve ]; then
+        _evtx_files
     fi
 }
 
 complete -F _evtx evtx
-complete -F _evtx_list evtx_list
+complete -F _evtx_files evtx_list evtx_carve

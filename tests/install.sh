@@ -1,6 +1,6 @@
 #!/usr/bin/env bash
 # Installs into folders under target/, looks at what then stands there, calls the front from its place, and takes everything away again.
-# What is due is written here by hand, or is samples/panel.listing, which the second reader wrote.
+# What is due is written here by hand, or is samples/panel.listing, which the second reader wrote, or samples/panel.carving (carving.sh).
 #
 #     install.sh
 #
@@ -13,11 +13,13 @@ made=$(realpath target)/install
 root="$made/a root"
 tree="$root/opt/evtx"
 evtx="$tree/bin/evtx"
-library="$tree/lib/libevtx_c.so.0.2.0"
+library="$tree/lib/libevtx_c.so.0.3.0"
 completions="$tree/share/bash-completion/completions"
 usage='usage: evtx_list [--help | --version | FILE..]'
-front_usage='usage: evtx [--help | --version | help | list [FILE..]]'
+carve_usage='usage: evtx_carve [--help | --version | FILE..]'
+front_usage='usage: evtx [--help | --version | help | list [FILE..] | carve [FILE..]]'
 listing=$(cat samples/panel.listing)
+carving=$(cat samples/panel.carving)
 checks=0
 failed=0
 
@@ -64,15 +66,18 @@ d 755 share/man
 d 755 share/man/man1
 f 644 include/evtx.h
 f 644 lib/libevtx_c.a
-f 644 lib/libevtx_c.so.0.2.0
+f 644 lib/libevtx_c.so.0.3.0
 f 644 lib/pkgconfig/evtx.pc
 f 644 share/bash-completion/completions/evtx
 f 644 share/man/man1/evtx.1
+f 644 share/man/man1/evtx_carve.1
 f 644 share/man/man1/evtx_list.1
 f 755 bin/evtx
 f 755 bin/evtx_list
+link bin/evtx_carve -> evtx_list
 link lib/libevtx_c.so -> libevtx_c.so.0
-link lib/libevtx_c.so.0 -> libevtx_c.so.0.2.0
+link lib/libevtx_c.so.0 -> libevtx_c.so.0.3.0
+link share/bash-completion/completions/evtx_carve -> evtx
 link share/bash-completion/completions/evtx_list -> evtx
 END
 }
@@ -81,6 +86,8 @@ calls_due() {
     cat <<'END'
 evtx_check_chunk
 evtx_check_file_header
+evtx_close
+evtx_feed
 evtx_free_space_offset
 evtx_next_in_bytes
 evtx_next_in_chunk
@@ -106,18 +113,20 @@ installed_files() {
 }
 
 versions() {
-    same "the version of pkg-config" 0.2.0 "$(PKG_CONFIG_PATH="$tree/lib/pkgconfig" pkg-config --modversion evtx)"
-    same "the version of the header" '"0.2.0"' "$(printf '#include <evtx.h>\nEVTX_VERSION\n' | gcc -E -P -I "$tree/include" - | tail -n 1)"
-    same "the version of the page evtx.1" '.TH EVTX 1 "" "evtx 0.2.0"' "$(grep '^\.TH' "$tree/share/man/man1/evtx.1")"
-    same "the version of the page evtx_list.1" '.TH EVTX_LIST 1 "" "evtx 0.2.0"' "$(grep '^\.TH' "$tree/share/man/man1/evtx_list.1")"
-    answers "evtx --version" 0 'evtx 0.2.0' '' "$evtx" --version
-    answers "evtx list --version" 0 'evtx_list 0.2.0' '' "$evtx" list --version
+    same "the version of pkg-config" 0.3.0 "$(PKG_CONFIG_PATH="$tree/lib/pkgconfig" pkg-config --modversion evtx)"
+    same "the version of the header" '"0.3.0"' "$(printf '#include <evtx.h>\nEVTX_VERSION\n' | gcc -E -P -I "$tree/include" - | tail -n 1)"
+    same "the version of the page evtx.1" '.TH EVTX 1 "" "evtx 0.3.0"' "$(grep '^\.TH' "$tree/share/man/man1/evtx.1")"
+    same "the version of the page evtx_list.1" '.TH EVTX_LIST 1 "" "evtx 0.3.0"' "$(grep '^\.TH' "$tree/share/man/man1/evtx_list.1")"
+    same "the version of the page evtx_carve.1" '.TH EVTX_CARVE 1 "" "evtx 0.3.0"' "$(grep '^\.TH' "$tree/share/man/man1/evtx_carve.1")"
+    answers "evtx --version" 0 'evtx 0.3.0' '' "$evtx" --version
+    answers "evtx list --version" 0 'evtx_list 0.3.0' '' "$evtx" list --version
+    answers "evtx carve --version" 0 'evtx_carve 0.3.0' '' "$evtx" carve --version
 }
 
 man_pages() {
     local page
     command -v groff >/dev/null || { echo "install: groff is not installed, and the man pages were not looked at" && return; }
-    for page in evtx evtx_list; do
+    for page in evtx evtx_list evtx_carve; do
         same "what groff says of $page.1" '' "$(groff -t -man -ww -b -Tutf8 "$tree/share/man/man1/$page.1" 2>&1 >/dev/null)"
     done
 }
@@ -135,8 +144,13 @@ completed() {
 }
 
 completion() {
-    completed "evtx" 'list help --help --version' evtx ''
+    completed "evtx" 'list carve help --help --version' evtx ''
     completed "evtx l" list evtx l
+    completed "evtx c" carve evtx c
+    completed "evtx carve --" '--help --version' evtx carve --
+    completed "evtx carve sam" 'compopt -o default' evtx carve sam
+    completed "evtx_carve --v" --version evtx_carve --v
+    completed "evtx_carve sam" 'compopt -o default' evtx_carve sam
     completed "evtx list --" '--help --version' evtx list --
     completed "evtx list sam" 'compopt -o default' evtx list sam
     completed "evtx help sam" '' evtx help sam
@@ -146,14 +160,16 @@ completion() {
 
 front_help() {
     cat <<'END'
-usage: evtx [--help | --version | help | list [FILE..]]
+usage: evtx [--help | --version | help | list [FILE..] | carve [FILE..]]
 
 Reads Windows XML event logs (EVTX).
 
-  evtx list [FILE..]  lists the records of each FILE, or of standard input (-);
-                      evtx list --help says more
-  evtx help, --help   writes this text
-  evtx --version      writes the version
+  evtx list [FILE..]   lists the records of each FILE, or of standard input (-);
+                       evtx list --help says more
+  evtx carve [FILE..]  finds the whole records in bytes of any size and origin;
+                       evtx carve --help says more
+  evtx help, --help    writes this text
+  evtx --version       writes the version
 
 Exit status: 1 if anything was said on standard error, else 0; 2 for wrong
 arguments of evtx itself; 128 and the signal's number if a signal ended it.
@@ -178,6 +194,25 @@ evtx_list(1) says what the numbers mean.
 END
 }
 
+carve_help() {
+    cat <<'END'
+usage: evtx_carve [--help | --version | FILE..]
+
+Finds the whole records of Windows XML event logs (EVTX) in bytes of any size
+and origin, as a disk image or what a power cut left: a line for each record,
+with its place in the input and its size, as soon as later bytes cannot undo it.
+
+  FILE       what is searched; - is standard input, which is also searched
+             without a FILE
+  --help     writes this help
+  --version  writes the version
+
+Where there are several, the lines of each begin with the line FILE: .
+What cannot be read or written is told on standard error. The manual page
+evtx_carve(1) says what a whole record is.
+END
+}
+
 words_of_the_front() {
     answers "evtx" 2 '' "$front_usage" "$evtx"
     answers "evtx lists" 2 '' 'evtx: lists: no such subcommand; evtx help lists them' "$evtx" lists samples/panel.evtx
@@ -186,6 +221,9 @@ words_of_the_front() {
     answers "evtx --help" 0 "$(front_help)" '' "$evtx" --help
     answers "evtx list --help" 0 "$(list_help)" '' "$evtx" list --help
     answers "evtx list --wrong" 1 '' "$usage" "$evtx" list --wrong
+    answers "evtx carve --help" 0 "$(carve_help)" '' "$evtx" carve --help
+    answers "evtx carve --wrong" 1 '' "$carve_usage" "$evtx" carve --wrong
+    answers "evtx carver" 2 '' 'evtx: carver: no such subcommand; evtx help lists them' "$evtx" carver samples/panel.evtx
 }
 
 listings() {
@@ -202,6 +240,17 @@ listings() {
     answers "evtx list of a missing file" 1 '' 'evtx_list: nofile: No such file or directory' "$evtx" list nofile
     answers "evtx list of a folder and a log" 1 $'samples:\nsamples/panel.evtx:\n'"$listing" 'evtx_list: samples: Is a directory' \
         "$evtx" list samples samples/panel.evtx
+}
+
+carvings() {
+    answers "evtx carve" 0 "$carving" '' "$evtx" carve samples/panel.evtx
+    answers "evtx carve found by PATH" 0 "$carving" '' env PATH="$tree/bin:$PATH" evtx carve samples/panel.evtx
+    answers "evtx_carve found by PATH" 0 "$carving" '' env PATH="$tree/bin:$PATH" evtx_carve samples/panel.evtx
+    answers "evtx carve of a pipe" 0 "$carving" '' sh -c 'cat samples/panel.evtx | "$0" carve -' "$evtx"
+    answers "evtx carve of a missing file" 1 '' 'evtx_carve: nofile: No such file or directory' "$evtx" carve nofile
+    answers "evtx carve, closed input" 1 '' 'evtx_carve: standard input: Bad file descriptor' sh -c '"$0" carve <&-' "$evtx"
+    answers "evtx carve, full output" 1 '' 'evtx_carve: standard output: No space left on device' \
+        sh -c '"$0" carve samples/panel.evtx >/dev/full' "$evtx"
 }
 
 # broken_streams SHELL: the front as run by that shell, which differ in what becomes of a closed stream beside a pipe.
@@ -298,7 +347,7 @@ uninstalled() {
     mkdir -p "$tree/share/man/man1" "$tree/include" && echo foreign >"$tree/share/man/man1/foreign.1" || stop "$tree cannot be made"
     make_target install
     make_target install
-    same "the page of others beside ours" $'evtx.1\nevtx_list.1\nforeign.1' "$(ls "$tree/share/man/man1")"
+    same "the page of others beside ours" $'evtx.1\nevtx_carve.1\nevtx_list.1\nforeign.1' "$(ls "$tree/share/man/man1")"
     make_target uninstall
     same "what is left where others are" "$(left_due)" "$(cd "$root" && find . | LC_ALL=C sort)"
     make_target uninstall
@@ -314,6 +363,7 @@ man_pages
 completion
 words_of_the_front
 listings
+carvings
 broken_streams sh
 broken_streams bash
 same "a terminal as standard input" "1 $usage" "$(at_terminal)"
