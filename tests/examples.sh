@@ -62,7 +62,7 @@ build_c() {
     shared=$(pkg-config --cflags --libs evtx) || stop "pkg-config has no evtx"
     static=$(pkg-config --static --cflags --libs evtx) || stop "pkg-config has no static evtx"
     mkdir -p "$made/shared" "$made/static" || stop "$made cannot be made"
-    for name in list carve text; do
+    for name in list carve arrive text; do
         $c -o "$made/shared/$name" "examples/c/$name.c" $shared || stop "$name.c is not built over the shared library"
         $c -static -o "$made/static/$name" "examples/c/$name.c" $static || stop "$name.c is not built over the archive"
     done
@@ -79,7 +79,7 @@ build() {
 # Which library a program is linked with: the shared one has to be named in it by its soname, and the archive not at all.
 linked() {
     local name
-    for name in list carve text; do
+    for name in list carve arrive text; do
         echo 1 >"$made/due"
         check "$name is linked with the shared library" "$made/due" sh -c 'readelf -d "$0" | grep -cF "[libevtx_c.so.0]"' "$made/shared/$name"
         echo 0 >"$made/due"
@@ -119,6 +119,10 @@ list_everywhere() {
 carve_everywhere() {
     check "carving, $1" "$3" "$made/shared/carve" "$2"
     check "carving over the archive, $1" "$3" "$made/static/carve" "$2"
+    cut -d ' ' -f 1,2 "$3" >"$made/due_without_numbers"
+    check "as it arrives, $1" "$made/due_without_numbers" "$made/shared/arrive" "$2"
+    check "as it arrives, over the archive, $1" "$made/due_without_numbers" "$made/static/arrive" "$2"
+    check "as it arrives, by a pipe, $1" "$made/due_without_numbers" sh -c 'dd if="$1" bs=1000 status=none | "$0" /dev/stdin' "$made/shared/arrive" "$2"
 }
 
 # The first and the last text of a log, one at a time.
@@ -320,10 +324,11 @@ failures() {
     { cat samples/panel.evtx && for _ in $(seq 20); do tail -c +4097 samples/panel.evtx; done; } >"$long"
     tells_failures list '' "$long" plain "$made/shared/list"
     tells_failures carve '' "$long" plain "$made/shared/carve"
+    tells_failures arrive '' "$long" plain "$made/shared/arrive"
     tells_failures text '' "$made/longtext.evtx" one_text
     tells_failures list.py '' "$long" plain $python
     tells_failures evtx_safe numbers "$long" plain "$rust"
-    for name in list carve; do
+    for name in list carve arrive; do
         told "$name, closed output" 1 "$name: standard output: Bad file descriptor" to_closed "$made/shared/$name" "$long"
     done
     told "text, closed output" 1 "text: standard output: Bad file descriptor" to_closed one_text "$made/hand.evtx"
@@ -331,6 +336,7 @@ failures() {
     told "evtx_safe, closed output, for which Rust puts /dev/null" 0 '' to_closed "$rust" "$long"
     wrong_arguments list LOG "$made/shared/list"
     wrong_arguments carve FILE "$made/shared/carve"
+    wrong_arguments arrive FILE "$made/shared/arrive"
     wrong_arguments text 'LOG CHUNK OFFSET' "$made/shared/text"
     told "text, no number" 2 "usage: text LOG CHUNK OFFSET" "$made/shared/text" samples/panel.evtx 0 -512
     wrong_arguments list.py LOG $python
