@@ -7,7 +7,7 @@ const WIDTHS: [usize; 7] = [1, 2, 7, 27, 28, 1_500, 65_536];
 /// Packets of a width that makes more of them are left to a kind of its own.
 const MOST_PACKETS: usize = 12_500;
 /// Streams up to this length are cut at every single place.
-const SHORT: usize = 200;
+const SHORT: usize = 12_000;
 const BY_CHANCE: usize = 3;
 
 /// The lengths of the packets; what is left after the last is one more.
