@@ -5,6 +5,7 @@ pub mod Listed
 pub mod Demand3
 pub mod Digits
 pub mod Decoding
+pub mod Zeros
 pub mod Calendar
 pub mod Times
 pub mod Tables

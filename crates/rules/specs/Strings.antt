@@ -62,3 +62,13 @@ allShown (c ∷ cs) = shown c ++ allShown cs
 -- the text of a string, of all its units
 unfoldable pub stringText : List ℕ → Text
 stringText us = allShown (characters us)
+
+-- u before units of which the zeros at the end were dropped: a zero with nothing behind it is dropped too
+abbrev pub unlessZeroLast : ℕ → List ℕ → List ℕ
+unlessZeroLast u [] = if eqb u 0 then [] else u ∷ []
+unlessZeroLast u (v ∷ us) = u ∷ v ∷ us
+
+-- Document 02, Two: zero units at the end are dropped; a zero inside stays.
+unfoldable pub withoutZeros : List ℕ → List ℕ
+withoutZeros [] = []
+withoutZeros (u ∷ us) = unlessZeroLast u (withoutZeros us)
