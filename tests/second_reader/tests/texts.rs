@@ -50,6 +50,67 @@ fn attributes_left_out() {
     assert_eq!(attribute(null, literal_first), "<P a=\"\"/>");
 }
 
+/// A String value of zeros is written as nothing, but is no Null.
+#[test]
+fn attributes_of_zeros_stay() {
+    for zeros in [2, 4, 62_000] {
+        let string = &[plain(0x01, vec![0; zeros]), plain(0x00, [])];
+        assert_eq!(attribute(string, |w| w.substitution(0x0e, 0)), "<P a=\"\"/>");
+        assert_eq!(attribute(string, |w| w.substitution(0x0d, 0)), "<P a=\"\"/>");
+        let and_null = |w: &mut Writer| {
+            w.substitution(0x0e, 0);
+            w.substitution(0x0e, 1);
+        };
+        assert_eq!(attribute(string, and_null), "<P a=\"\"/>");
+    }
+}
+
+#[test]
+fn closing_zeros_by_where_a_string_stands() {
+    let string = &[plain(0x01, utf16("\0Halle\0\0")), plain(0x01, utf16("West\0"))];
+    for token in [0x0d, 0x0e] {
+        let element = |w: &mut Writer| w.open("P", |w| w.substitution(token, 0));
+        let made = body(|w| w.instance(element, string));
+        assert_eq!(text_of(&made), "<P>\u{FFFD}Halle</P>");
+        let shown = attribute(string, |w| w.substitution(token, 0));
+        assert_eq!(shown, "<P a=\"\u{FFFD}Halle\"/>");
+        let two = |w: &mut Writer| {
+            w.substitution(token, 1);
+            w.substitution(token, 0);
+        };
+        assert_eq!(attribute(string, two), "<P a=\"West\u{FFFD}Halle\"/>");
+    }
+    let literal_between = |w: &mut Writer| {
+        w.substitution(0x0d, 1);
+        w.literal("-\0\0");
+        w.substitution(0x0d, 1);
+    };
+    assert_eq!(attribute(string, literal_between), "<P a=\"West-\u{FFFD}\u{FFFD}West\"/>");
+}
+
+#[test]
+fn literals_keep_their_closing_zeros() {
+    for token in [0x05, 0x45] {
+        let literal = [token, 0x01, 3, 0, 0x41, 0, 0, 0, 0, 0];
+        let element = body(|w| w.open("P", |w| w.put(&literal)));
+        assert_eq!(text_of(&element), "<P>A\u{FFFD}\u{FFFD}</P>");
+        assert_eq!(attribute(&[], |w| w.put(&literal)), "<P a=\"A\u{FFFD}\u{FFFD}\"/>");
+    }
+}
+
+/// An odd size is refused before anything is dropped, at the descriptor's size.
+#[test]
+fn odd_sizes_of_zeros() {
+    for size in [1, 3, 62_001] {
+        let element = |w: &mut Writer| w.open("P", |w| w.substitution(0x0e, 0));
+        let mut written = writer_at(BODY);
+        written.stream_header();
+        written.instance(element, &[plain(0x01, vec![0; size])]);
+        let place = BODY as u64 + written.bytes.len() as u64 - size as u64 - 4;
+        assert_eq!(refusal(&chunk_of(&written)), (11, place));
+    }
+}
+
 #[test]
 fn several_attributes_of_one_name() {
     let several = |w: &mut Writer| {
@@ -183,4 +244,16 @@ fn texts_longer_than_the_listing_room() {
     assert_eq!(record_text(&chunk, 512, 65_536).unwrap_err().number, 13);
     let shown = String::from_utf8(listing(&[vec![0; 4_096], chunk].concat())).unwrap();
     assert!(shown.ends_with("\n512 1 refused 13\n"));
+}
+
+/// 7 bytes of tags and 21,843 characters of three bytes fill the room.
+#[test]
+fn a_closing_zero_needs_no_room() {
+    let with = |last: u16| {
+        let string = plain(0x01, u16s(&[&[0x20ac; 21_843], &[last][..]].concat()));
+        chunk_of(&body(|w| w.instance(|w| w.open("P", |w| w.substitution(0x0d, 0)), &[string])))
+    };
+    assert_eq!(record_text(&with(0), 512, 65_536).unwrap().len(), 65_536);
+    assert_eq!(record_text(&with(0), 512, 65_535).unwrap_err().number, 13);
+    assert_eq!(record_text(&with(0x41), 512, 65_536).unwrap_err().number, 13);
 }

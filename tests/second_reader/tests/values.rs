@@ -47,7 +47,87 @@ fn null_and_string() {
     ok(0x00, &[], "");
     ok(0x00, &[1, 2, 3], "");
     ok(0x01, &[], "");
-    ok(0x01, &utf16("Brücke\0"), "Brücke\u{FFFD}");
+    ok(0x01, &utf16("Brücke\0"), "Brücke");
+}
+
+/// The text of a String value of the given units.
+fn string(units: &[u16]) -> String {
+    value_text(0x01, &u16s(units)).expect("an even size")
+}
+
+/// Zero bytes, and an A with zero bytes after it, of the first sizes.
+#[test]
+fn sizes_of_strings() {
+    for size in [0, 2, 4] {
+        ok(0x01, &vec![0; size], "");
+    }
+    for size in [1, 3, 65_535] {
+        wrong(0x01, &vec![0; size], Cause::Size);
+    }
+    ok(0x01, &[0x41, 0], "A");
+    ok(0x01, &[0x41, 0, 0, 0], "A");
+    wrong(0x01, &[0x41], Cause::Size);
+    wrong(0x01, &[0x41, 0, 0], Cause::Size);
+}
+
+#[test]
+fn closing_zeros_of_strings() {
+    assert_eq!(string(&[0]), "");
+    assert_eq!(string(&[0, 0]), "");
+    assert_eq!(string(&[0; 32_767]), "");
+    assert_eq!(string(&[0x41, 0]), "A");
+    assert_eq!(string(&[0x41, 0x42, 0, 0, 0]), "AB");
+    let mut longest = [0; 32_767];
+    longest[0] = 0x41;
+    assert_eq!(string(&longest), "A");
+    longest[32_766] = 0x42;
+    assert_eq!(string(&longest), format!("A{}B", "\u{FFFD}".repeat(32_765)));
+}
+
+/// Units are dropped, not bytes: one with a zero in either half stays.
+#[test]
+fn halves_of_units_that_are_zero() {
+    ok(0x01, &[0x41, 0, 0, 0], "A");
+    ok(0x01, &[0, 0x41, 0, 0], "\u{4100}");
+    ok(0x01, &[0, 0x41], "\u{4100}");
+    ok(0x01, &[0x41, 0, 0, 0x41, 0, 0], "A\u{4100}");
+    ok(0x01, &[0, 0, 0, 0x41], "\u{FFFD}\u{4100}");
+    ok(0x01, &[0, 0, 0x41, 0], "\u{FFFD}A");
+}
+
+#[test]
+fn zeros_before_the_last_unit_stay() {
+    assert_eq!(string(&[0, 0x41]), "\u{FFFD}A");
+    assert_eq!(string(&[0x41, 0, 0x42]), "A\u{FFFD}B");
+    assert_eq!(string(&[0, 0x41, 0]), "\u{FFFD}A");
+    assert_eq!(string(&[0, 0, 0x41, 0, 0x42, 0, 0]), "\u{FFFD}\u{FFFD}A\u{FFFD}B");
+    assert_eq!(string(&[0x41, 0, 0xfffd, 0]), "A\u{FFFD}\u{FFFD}");
+    // Other units that are no XML character are not dropped.
+    assert_eq!(string(&[0x41, 0, 1]), "A\u{FFFD}\u{FFFD}");
+    assert_eq!(string(&[0x41, 0, 0xffff, 0]), "A\u{FFFD}\u{FFFD}");
+    assert_eq!(string(&[0x41, 0, 0x20]), "A\u{FFFD} ");
+}
+
+/// Zeros are dropped before surrogates are paired.
+#[test]
+fn surrogates_before_closing_zeros() {
+    assert_eq!(string(&[0xd800, 0]), "\u{FFFD}");
+    assert_eq!(string(&[0xd800, 0, 0]), "\u{FFFD}");
+    assert_eq!(string(&[0xd800, 0, 0xdc00]), "\u{FFFD}\u{FFFD}\u{FFFD}");
+    assert_eq!(string(&[0xd800, 0xdc00, 0]), "\u{10000}");
+    assert_eq!(string(&[0xd800, 0xdc00, 0, 0]), "\u{10000}");
+    assert_eq!(string(&[0x41, 0xdc00, 0]), "A\u{FFFD}");
+    assert_eq!(string(&[0, 0xdc00]), "\u{FFFD}\u{FFFD}");
+}
+
+/// The type decides, and only for String are zeros dropped.
+#[test]
+fn closing_zeros_of_other_types() {
+    ok(0x0e, &[0x41, 0, 0, 0], "41000000");
+    ok(0x06, &[0x41, 0], "65");
+    ok(0x0b, &[0x41, 0, 0, 0], "0x00000041");
+    wrong(0x02, &[0x41, 0, 0, 0], Cause::Type);
+    wrong(0x81, &[0x41, 0, 0, 0], Cause::Type);
 }
 
 #[test]
@@ -159,9 +239,16 @@ fn security_identifiers() {
     wrong(0x13, &sid(1, 0, 1, &[2]), Cause::Content);
 }
 
-/// The text of the given UTF-16 units.
+/// The text of the given UTF-16 units as a literal has it: all are written.
 fn units(units: &[u16]) -> String {
     escaped(&u16s(units))
+}
+
+#[test]
+fn literals_keep_closing_zeros() {
+    assert_eq!(units(&[0]), "\u{FFFD}");
+    assert_eq!(units(&[0x41, 0, 0]), "A\u{FFFD}\u{FFFD}");
+    assert_eq!(units(&[0xd800, 0]), "\u{FFFD}\u{FFFD}");
 }
 
 #[test]
