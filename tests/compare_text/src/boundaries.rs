@@ -38,6 +38,7 @@ pub fn all() -> Vec<Value> {
         times::file_times(),
         times::system_times(),
         strings::escapes_and_surrogates(),
+        strings::closing_zeros(),
         sizes::wrong_and_right(),
         sizes::outside_the_table(),
     ];

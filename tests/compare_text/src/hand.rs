@@ -14,12 +14,13 @@ mod times;
 mod tokens;
 mod unread;
 mod values;
+mod zeros;
 
 use crate::question::Question;
 
 pub use examples::first as first_example;
 
-const GROUPS: [fn() -> Vec<Question>; 12] = [
+const GROUPS: [fn() -> Vec<Question>; 13] = [
     examples::all,
     limits::all,
     counts::all,
@@ -29,6 +30,7 @@ const GROUPS: [fn() -> Vec<Question>; 12] = [
     pointers::all,
     tokens::all,
     texts::all,
+    zeros::all,
     values::all,
     times::all,
     unread::all,

@@ -1,5 +1,5 @@
-//! Strings: each UTF-16 unit alone, pairs, lone surrogates, escapes, and
-//! lengths.
+//! Strings: each UTF-16 unit alone, pairs, lone surrogates, escapes, lengths, and
+//! closing zeros.
 
 use super::Value;
 use log_writer::{u16s, utf16};
@@ -10,6 +10,15 @@ const AROUND_SURROGATES: [u16; 10] =
     [0xd7ff, 0xd800, 0xd801, 0xdbfe, 0xdbff, 0xdc00, 0xdc01, 0xdffe, 0xdfff, 0xe000];
 /// Units that are written as they are, as an escape, or as U+FFFD.
 const OTHERS: [u16; 9] = [0x41, 0x26, 0x22, 0x0a, 0x00, 0x7f, 0x7ff, 0x800, 0xfffe];
+
+/// What stands before closing zeros: units with a zero in either half, units that
+/// are escaped or no XML character, and surrogates.
+const BEFORE_ZEROS: [u16; 14] = [
+    0x41, 0x4100, 0x01, 0x100, 0xff, 0xff00, 0x26, 0x0a, 0xd800, 0xdbff, 0xdc00, 0xdfff, 0xfffd,
+    0xfffe,
+];
+/// What stands before that.
+const FRONTS: [&[u16]; 6] = [&[], &[0], &[0x41], &[0x41, 0], &[0xd800], &[0xd800, 0]];
 
 fn string(units: &[u16]) -> Value {
     Value::new(0x01, u16s(units))
@@ -42,7 +51,6 @@ pub fn escapes_and_surrogates() -> Vec<Value> {
         text("&amp;&#10;]]>"),
         text("\t\n\r\u{b}\u{c}"),
         text("Brücke €😀\u{10ffff}"),
-        text("trailing zeros\0\0\0"),
         string(&[0x26; 32_767]),
         string(&[0xd83d; 999]),
     ];
@@ -56,6 +64,28 @@ pub fn escapes_and_surrogates() -> Vec<Value> {
     }
     for size in [1, 3, 5, 255, 65_535] {
         values.push(Value::new(0x01, vec![0x41; size]));
+    }
+    values
+}
+
+/// Strings with zeros at their end, with zeros that another unit follows, and of
+/// nothing but zeros; odd sizes, where a zero byte is half a unit.
+pub fn closing_zeros() -> Vec<Value> {
+    let mut values = vec![text("Brücke\0"), text("\0Halle\0West\0\0\0")];
+    for count in [1, 2, 3, 60, 29_999, 32_767] {
+        values.push(string(&vec![0; count]));
+        values.push(string(&[&[0x41], &vec![0; count - 1][..]].concat()));
+        values.push(string(&[&vec![0; count - 1][..], &[0x42]].concat()));
+    }
+    for front in FRONTS {
+        for last in BEFORE_ZEROS {
+            for zeros in [&[][..], &[0], &[0; 2], &[0; 7]] {
+                values.push(string(&[front, &[last], zeros].concat()));
+            }
+        }
+    }
+    for bytes in [&[0][..], &[0; 3], &[0x41, 0, 0], &[0, 0x41, 0], &[0, 0, 0x41], &[0; 65_535]] {
+        values.push(Value::new(0x01, bytes));
     }
     values
 }

@@ -191,6 +191,29 @@ fn room() -> Vec<File> {
     ]
 }
 
+/// The same for a string of 21,843 units of three bytes each and one unit more,
+/// as a value and as a literal: a zero is dropped from the value only.
+fn room_of_zeros() -> Vec<File> {
+    let units = |last: u16| [&[0x20ac; 21_843], &[last][..]].concat();
+    let sealed = |mut chunk: Vec<u8>| {
+        seal(&mut chunk, 50_000);
+        file(&[&chunk], 0)
+    };
+    let value = |last: u16| {
+        let string = [plain(0x01, u16s(&units(last)))];
+        sealed(one_record(|w| w.instance(|w| w.open("P", |w| w.substitution(0x0e, 0)), &string)))
+    };
+    let literal = sealed(one_record(|w| w.open("P", |w| w.units(&units(0)))));
+    let text = "€".repeat(21_843);
+    let listed = format!("header ok\nchunk 0 ok\n512 1 <P>{text}</P>\n");
+    let refused = "header ok\nchunk 0 ok\n512 1 refused 13\n";
+    vec![
+        File::new("65,536 bytes and a closing zero", value(0)).with(listed),
+        File::new("65,536 bytes and a letter", value(0x41)).with(refused),
+        File::new("65,536 bytes and a literal's closing zero", literal).with(refused),
+    ]
+}
+
 pub fn all() -> Vec<File> {
     let groups = [
         sizes(),
@@ -201,6 +224,7 @@ pub fn all() -> Vec<File> {
         full_chunk(),
         many_chunks(),
         room(),
+        room_of_zeros(),
     ];
     groups.into_iter().flatten().collect()
 }

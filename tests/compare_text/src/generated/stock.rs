@@ -1,9 +1,10 @@
 //! Values to choose from, by type, and random strings.
 
 use crate::boundaries::{self, Value};
-use log_writer::Random;
+use log_writer::{u16s, Random};
 use second_reader::value::value_text;
 
+const STRING: u8 = 0x01;
 const LONGEST: usize = 120;
 /// Units of which strings are made: letters, escapes, controls, units of two
 /// and three bytes in UTF-8, surrogates.
@@ -40,9 +41,20 @@ impl Stock {
                 let length = random.below(20);
                 random.bytes(length)
             }
-            count => lists[kind_at][random.below(count)].bytes.clone(),
+            count => {
+                let mut bytes = lists[kind_at][random.below(count)].bytes.clone();
+                if kind == STRING && random.once_in(2) {
+                    bytes.extend(u16s(closing_zeros(random)));
+                }
+                bytes
+            }
         }
     }
+}
+
+/// What a string may end in: a value drops it, a literal does not.
+fn closing_zeros(random: &mut Random) -> &'static [u16] {
+    &[0; 40][..random.pick(&[1, 1, 2, 3, 40])]
 }
 
 fn empty_lists() -> Vec<Vec<Value>> {
@@ -51,9 +63,13 @@ fn empty_lists() -> Vec<Vec<Value>> {
 
 pub fn units(random: &mut Random) -> Vec<u16> {
     let length = random.pick(&[0, 1, 1, 2, 3, 5, 9, 30]);
-    (0..length)
+    let mut units: Vec<u16> = (0..length)
         .map(|_| if random.once_in(8) { random.number() as u16 } else { random.pick(&UNITS) })
-        .collect()
+        .collect();
+    if random.once_in(4) {
+        units.extend(closing_zeros(random));
+    }
+    units
 }
 
 /// The types of an instance's values: mostly those of the table.

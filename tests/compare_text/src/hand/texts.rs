@@ -113,8 +113,8 @@ fn names_of_other_units() -> Vec<Question> {
     ]
 }
 
-/// A string of the given units, as a value in an element, as a literal and as
-/// an attribute's literal.
+/// A string of the given units, the last of them not zero, as a value in an
+/// element, as a literal and as an attribute's literal.
 fn string(name: &str, units: &[u16], text: &str) -> Vec<Question> {
     let literal = one_record(|w| w.open("P", |w| w.units(units)));
     let attribute =
@@ -170,7 +170,6 @@ fn characters() -> Vec<Question> {
         string("26: fdd0", &[0xfdd0, 0xfeff], "\u{fdd0}\u{feff}"),
         string("26: 1fffe and 10ffff", &[0xd83f, 0xdffe, 0xdbff, 0xdfff], "\u{1fffe}\u{10ffff}"),
         string("lengths in UTF-8", &[0x7f, 0x80, 0x7ff, 0x800], "\u{7f}\u{80}\u{7ff}\u{800}"),
-        string("closing zeros", &[0x41, 0, 0], "A\u{fffd}\u{fffd}"),
         string("no unit", &[], ""),
         string("]]>", &[0x5d, 0x5d, 0x3e], "]]&gt;"),
     ])
