@@ -39,6 +39,7 @@ pub fn all() -> Vec<Value> {
         times::system_times(),
         strings::escapes_and_surrogates(),
         strings::closing_zeros(),
+        strings::last_bytes(),
         sizes::wrong_and_right(),
         sizes::outside_the_table(),
     ];

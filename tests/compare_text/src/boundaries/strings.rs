@@ -89,3 +89,19 @@ pub fn closing_zeros() -> Vec<Value> {
     }
     values
 }
+
+/// Sizes up to some times eight bytes, with the last byte that is not zero at each
+/// place: a reader may pass the tail several bytes at a time. What stands before
+/// that byte is zeros, or is not.
+pub fn last_bytes() -> Vec<Value> {
+    let mut values = Vec::new();
+    for size in (2..=34).step_by(2) {
+        for at in 0..size {
+            for before in [0, 0x42] {
+                let front = [vec![before; at], vec![0x41]].concat();
+                values.push(Value::new(0x01, [front, vec![0; size - at - 1]].concat()));
+            }
+        }
+    }
+    values
+}

@@ -3,7 +3,7 @@
 
 use super::examples::shown;
 use super::flat;
-use super::values::wrong;
+use super::values::{named as renamed, wrong};
 use crate::question::Question;
 use log_writer::*;
 
@@ -48,9 +48,17 @@ fn with_attribute(units: &[u16], items: impl FnOnce(&mut Writer)) -> Vec<u8> {
     with_string(units, |w| w.with_attributes("P", |w| w.attribute("a", items)))
 }
 
+/// Named after the question that it is a case of: surrogates before zeros, nothing
+/// but zeros, or which strings lose them.
 fn named(units: &[u16], place: &str) -> String {
+    let number = match units {
+        [.., 0xd800..=0xdfff, 0] => 83,
+        [] => 85,
+        _ if units.iter().all(|unit| *unit == 0) => 84,
+        _ => 85,
+    };
     let front = &units[..units.len().min(6)];
-    format!("closing zeros: {} units, {front:x?} and on, {place}", units.len())
+    format!("{number}: closing zeros, {} units, {front:x?} and on, {place}", units.len())
 }
 
 /// The string as a value by a normal and by an optional substitution: in an
@@ -123,7 +131,7 @@ fn fragments() -> Vec<Question> {
     let value = around(&|w| {
         w.instance(|w| w.open("i", |w| w.substitution(0x0d, 0)), &[plain(0x01, [0x41, 0, 0, 0])])
     });
-    let name = "closing zeros: a fragment's";
+    let name = "85: closing zeros of a fragment's";
     vec![
         Question::text(format!("{name} literal"), literal, "<P><i>A\u{fffd}</i></P>"),
         Question::text(format!("{name} value"), value, "<P><i>A</i></P>"),
@@ -145,7 +153,7 @@ fn long_ones() -> Vec<Question> {
 /// An odd size is refused before anything is dropped.
 fn odd_sizes() -> Vec<Question> {
     let odd = [&[0][..], &[0; 3], &[0x41, 0, 0], &[0, 0x41, 0], &[0; 61_999]];
-    odd.into_iter().flat_map(|bytes| wrong(0x01, bytes)).collect()
+    renamed(83, odd.into_iter().flat_map(|bytes| wrong(0x01, bytes)).collect())
 }
 
 /// A text of 65,536 bytes, 7 of tags and 21,843 characters of three bytes, that
@@ -156,9 +164,9 @@ fn room() -> Vec<Question> {
     let text = |last: &str| format!("<P>{}{last}</P>", "€".repeat(21_843));
     let literal = one_record(|w| w.open("P", |w| w.units(&units(0))));
     vec![
-        Question::text("closing zeros: room", shown(1, &u16s(&units(0))), text("")),
-        Question::text("no closing zero: room", shown(1, &u16s(&units(0x41))), text("A")),
-        Question::text("a literal's closing zero: room", literal, text("\u{fffd}")),
+        Question::text("85: room, a closing zero", shown(1, &u16s(&units(0))), text("")),
+        Question::text("85: room, a letter", shown(1, &u16s(&units(0x41))), text("A")),
+        Question::text("85: room, a literal's closing zero", literal, text("\u{fffd}")),
     ]
 }
 
