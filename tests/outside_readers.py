@@ -167,8 +167,13 @@ def same_lines(ours, theirs):
     return plain == theirs.replace("\r\n", "\n").replace("\r", "\n")
 
 
-def closing_zeros(ours, theirs):
-    return ours.endswith("\ufffd") and ours.rstrip("\ufffd") == theirs
+def literal_with_zeros(log, ours, theirs):
+    """Whether the log has the text as a literal, whose closing zeros both readers drop. A value
+    from a substitution drops them here too, and is no such case."""
+    kept = ours.rstrip("\ufffd")
+    units = kept.encode("utf-16-le") + bytes(2 * (len(ours) - len(kept)))
+    stored = b"\x01" + struct.pack("<H", len(units) // 2) + units
+    return kept == theirs and (b"\x05" + stored in log or b"\x45" + stored in log)
 
 
 def same_inside(ours, theirs):
@@ -187,15 +192,16 @@ CONVENTIONS = [
     ("real numbers: their bits here", same_real, None),
     ("letter case of GUIDs, binary and Boolean values", same_case, None),
     ("line ends: written as character references here", same_lines, None),
-    ("a string's closing zeros: U+FFFD here, dropped there", closing_zeros, None),
     ("space at the ends of a text: kept here", same_inside, None),
 ]
 LEFT_OUT = "attributes of Null values: left out here, empty there"
+LITERAL_ZEROS = "a literal's closing zeros: U+FFFD here, dropped there"
 
 
 class Comparison:
-    def __init__(self, reader):
+    def __init__(self, reader, log):
         self.reader = reader
+        self.log = log
         self.conventions = collections.Counter()
         self.differences = []
         self.records = self.fields = self.equal = 0
@@ -211,6 +217,8 @@ class Comparison:
             self.conventions[LEFT_OUT] += 1
         elif ours is None or theirs is None:
             self.differ(f"{where} {name}", ours, theirs)
+        elif literal_with_zeros(self.log, ours, theirs):
+            self.conventions[LITERAL_ZEROS] += 1
         else:
             for convention, holds, reader in CONVENTIONS:
                 if reader in (None, self.reader) and holds(ours, theirs):
@@ -238,7 +246,8 @@ def pairs(ours, theirs):
 
 def compare(name, read, path, ours, sound):
     """Compares one log with one reader and prints the result. Answers whether they agree."""
-    result = Comparison(name)
+    with open(path, "rb") as log:
+        result = Comparison(name, log.read())
     missing = refused = 0
     matched, more = pairs(ours, read(path))
     for record, event in matched:
