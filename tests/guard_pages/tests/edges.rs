@@ -4,7 +4,7 @@
 use first_reader::answers::{Answer, Fields, Found, Stretch, Text};
 use first_reader::calls::evtx_search_bytes;
 use guard_pages::fenced::{Edge, Fenced, EDGES};
-use log_writer::{frame, put, Random, CHUNK, DATA};
+use log_writer::{frame, plain, put, record_at, Random, Writer, CHUNK, DATA};
 use second_reader::binxml::{record_text, text_length};
 use second_reader::{header, record};
 use std::collections::BTreeSet;
@@ -199,6 +199,45 @@ fn texts() {
         Ok(())
     });
     assert!(outcome.is_ok() && asked > 300, "{asked} chunks of {turn}");
+}
+
+/// A record at the chunk's end whose last value is a string of so many bytes: four
+/// more, the record's second size, stand between it and the page.
+fn string_at_the_end(string: &[u8], attribute: bool) -> (Vec<u8>, u64) {
+    let write = |w: &mut Writer| {
+        let shown = |w: &mut Writer| w.substitution(0x0e, 0);
+        let element = |w: &mut Writer| match attribute {
+            true => w.with_attributes("P", |w| w.attribute("a", shown)),
+            false => w.open("P", shown),
+        };
+        w.instance(element, &[plain(0x01, string)]);
+    };
+    let mut written = Writer::at(0);
+    written.stream_header();
+    write(&mut written);
+    let offset = CHUNK - 28 - written.bytes.len();
+    (record_at(offset, write), offset as u64)
+}
+
+fn ask_at_the_end(string: &[u8], attribute: bool) {
+    let (chunk, offset) = string_at_the_end(string, attribute);
+    for edge in EDGES {
+        let mut input = Fenced::input(&chunk, edge);
+        for room in rooms(&chunk, &mut input, offset) {
+            EDGES.into_iter().for_each(|edge| text(&chunk, &mut input, offset, room, edge));
+        }
+    }
+}
+
+/// Strings of zeros, of even and odd sizes, with a unit that is not zero or none.
+#[test]
+fn strings_of_zeros() {
+    for size in [0, 1, 2, 3, 4, 4_095, 4_096, 62_000, 62_001] {
+        for first in [0, 0x41] {
+            let string: Vec<u8> = [first].into_iter().chain([0; 62_001]).take(size).collect();
+            [false, true].into_iter().for_each(|attribute| ask_at_the_end(&string, attribute));
+        }
+    }
 }
 
 #[test]
