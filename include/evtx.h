@@ -43,9 +43,9 @@
 #include <stddef.h>
 #include <stdint.h>
 
-#define EVTX_VERSION "0.3.0"
+#define EVTX_VERSION "0.4.0"
 #define EVTX_VERSION_MAJOR 0
-#define EVTX_VERSION_MINOR 3
+#define EVTX_VERSION_MINOR 4
 #define EVTX_VERSION_PATCH 0
 
 /* How many bytes a file header has, and a chunk. */
