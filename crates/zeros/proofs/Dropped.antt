@@ -3,9 +3,9 @@
 --     kept-at, kept-nothing : the last byte that is left is not zero, or none is left
 use mathlib.Core.Path.{_≡_, refl, ap, sym, _∙_}
 use mathlib.Core.List.{List, [], _∷_, _++_}
-use Prim.Native.Nat.{ℕ, zero, suc, _+_, _*_, _-_, _≤_, _<_}
+use Prim.Native.Nat.{ℕ, _+_, _-_, _≤_, _<_}
 use native.Mathlib.Omega.{arith}
-use lib.ListN.{length, take, drop, getD, replicate, length-take}
+use lib.ListN.{length, take, getD, replicate, length-take}
 use lib.Seq.{take-all, take-add, drop-cons}
 use Rattle.rules.specs.Bytes.{number, part, numberAt}
 use Rattle.rules.specs.Strings.{withoutZeros}
