@@ -15,6 +15,8 @@ pub mod Values
 pub mod Elements
 pub mod Fragments
 pub mod RecordText
+pub mod Packing
+pub mod Index
 pub mod Listing
 pub mod Carving
 pub mod Opened

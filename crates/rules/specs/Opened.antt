@@ -15,6 +15,8 @@ use Rattle.rules.specs.Elements.{literal, substitution, valueRead, piece
 use Rattle.rules.specs.Elements.{items, content, elementBody, elementOver}
 use Rattle.rules.specs.Fragments.{preamble, descriptor, valuesOf, values, layout, definition, instance, fragmentBody, fragment, binXml, element}
 use Rattle.rules.specs.RecordText.{reading, read, textOf, touched}
+use Rattle.rules.specs.Packing.{joined, fields, packed, unpacked}
+use Rattle.rules.specs.Index.{entryBytes, build, rows, entries, isIndex, entryAt, find, add}
 use Rattle.rules.specs.Listing.{recordLine, recordLines, chunkLines, restLine, chunksLines, listing}
 use Rattle.rules.specs.Carving.{carvedLines}
 
@@ -26,4 +28,5 @@ unfolding crcBit crcBits crcByte crcOver crc32 fileHeaderTests checkFileHeader c
     authorityText subsText sid types valueText literal substitution valueRead piece pieces attributeText attribute attributes attributeList itemValue item
     items content elementBody elementOver preamble descriptor valuesOf values layout definition instance fragmentBody fragment binXml element reading read
     textOf touched recordLine recordLines chunkLines restLine chunksLines listing canGrow walk left streamOf streamCall feed close carvedLines
+    joined fields packed unpacked entryBytes build rows entries isIndex entryAt find add
 opened = tt
