@@ -10,6 +10,12 @@ pub mod Calendar
 pub mod Times
 pub mod Tables
 pub mod Octets
+pub mod Packed
+pub mod Refusals
+pub mod Indexed
+pub mod Entries
+pub mod Additions
+pub mod Found
 pub mod Grows
 pub mod Walks
 pub mod Packets
