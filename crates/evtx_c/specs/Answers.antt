@@ -2,10 +2,12 @@
 use Prim.Native.Nat.{ℕ}
 use Rattle.rules.specs.Answers.{Outcome, value, refused}
 use Rattle.rules.specs.Records.{Range, RecordFields}
+use Rattle.rules.specs.Index.{Placed}
 use Rattle.evtx_c.specs.declared.EvtxAnswer.{EvtxAnswer}
 use Rattle.evtx_c.specs.declared.EvtxFound.{EvtxFound}
 use Rattle.evtx_c.specs.declared.EvtxStretch.{EvtxStretch}
 use Rattle.evtx_c.specs.declared.EvtxFields.{EvtxFields}
+use Rattle.evtx_c.specs.declared.EvtxEntry.{EvtxEntry}
 
 -- a check answers its number
 abbrev pub checked : ℕ → EvtxAnswer
@@ -27,3 +29,17 @@ stretchIn (refused n p) = record { number = n; offset = 0; length = 0 }
 abbrev pub fieldsIn : Outcome RecordFields → EvtxFields
 fieldsIn (value f) = record { number = 0; «record_number» = f .recordNumber; «written_time» = f .writtenTime }
 fieldsIn (refused n p) = record { number = n; «record_number» = 0; «written_time» = 0 }
+
+abbrev pub entryIn : Outcome Placed → EvtxEntry
+entryIn (value p) =
+    record {
+      number = 0;
+      position = p .0;
+      «chunk_number» = p .1 .chunk;
+      offset = p .1 .offset;
+      size = p .1 .size;
+      «record_number» = p .1 .number;
+      refusal = p .1 .refusal;
+    }
+entryIn (refused n p) =
+    record { number = n; position = 0; «chunk_number» = 0; offset = 0; size = 0; «record_number» = 0; refusal = 0 }

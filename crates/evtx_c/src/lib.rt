@@ -7,10 +7,12 @@ ghost use Rattle.rules.specs.Headers.{checkFileHeader, checkChunk, freeSpaceOf}
 ghost use Rattle.rules.specs.Records.{searchChunk, searchBytes, nextInChunk, nextInBytes, sizeInChunk, sizeInBytes, stretchOf, fieldsOf};
 ghost use Rattle.rules.specs.Stream.{feed, close, StreamAnswered};
 ghost use Rattle.rules.specs.RecordText.{textOf};
+ghost use Rattle.rules.specs.Index.{old, build, entryAt, find, add};
+ghost use Rattle.entries.specs.Answers.{foundMeaning};
 ghost use Rattle.record.specs.Asked.{nextMeaning, sizeMeaning};
 ghost use Rattle.binxml.specs.Text.{wholeText};
 ghost use Rattle.evtx.specs.Texts.{Counted};
-ghost use Rattle.evtx_c.specs.Answers.{checked, sizeIn, foundOf, stretchIn, fieldsIn};
+ghost use Rattle.evtx_c.specs.Answers.{checked, sizeIn, foundOf, stretchIn, fieldsIn, entryIn};
 
 #[repr(C)]
 pub struct EvtxAnswer {
@@ -36,6 +38,17 @@ pub struct EvtxFields {
     pub number: u32,
     pub record_number: u64,
     pub written_time: u64,
+}
+
+#[repr(C)]
+pub struct EvtxEntry {
+    pub number: u32,
+    pub position: u64,
+    pub chunk_number: u64,
+    pub offset: u64,
+    pub size: u64,
+    pub record_number: u64,
+    pub refusal: u32,
 }
 
 #[repr(C)]
@@ -257,4 +270,80 @@ pub extern "C" fn evtx_text_length(chunk: &[u8], offset: u64) -> EvtxText
     ensures { λ r. ⌜ Counted (wholeText (now (chunk .entry)) offset) (r .number) (r .length) ⌝ }
 {
     told(evtx::text_length(chunk, offset as usize))
+}
+
+// The answer about an index that is written.
+fn index_answer(built: index::IndexAnswer) -> EvtxAnswer
+    ensures { λ r. ⌜ (r .number ≡ built .number) × (r .length ≡ built .length) ⌝ }
+{
+    EvtxAnswer {
+        number: built.number,
+        length: built.length as u64,
+    }
+}
+
+// The answer that tells an entry.
+fn entry_answer(found: entries::Found) -> EvtxEntry
+    ensures { λ r. ⌜ r ≡ entryIn (foundMeaning found) ⌝ }
+{
+    match found {
+        entries::Found::Is {
+            position,
+            chunk,
+            offset,
+            size,
+            record_number,
+            refusal,
+        } => EvtxEntry {
+            number: 0,
+            position: position as u64,
+            chunk_number: chunk,
+            offset,
+            size,
+            record_number,
+            refusal,
+        },
+        entries::Found::Refused { number } => EvtxEntry {
+            number,
+            position: 0,
+            chunk_number: 0,
+            offset: 0,
+            size: 0,
+            record_number: 0,
+            refusal: 0,
+        },
+    }
+}
+
+// Builds the index of a chunk.
+#[no_mangle]
+pub extern "C" fn evtx_index_build(chunk: &[u8], out: &mut [u8]) -> EvtxAnswer
+    ensures { λ r. ⌜ Answered (build old 0 (now (chunk .entry)) (length (now (out .entry)))) (now (out .entry)) (now (out .exit)) (r .number) (r .length) ⌝ }
+{
+    index_answer(index::build(chunk, out))
+}
+
+// The entry at a position of an index.
+#[no_mangle]
+pub extern "C" fn evtx_index_entry(index: &[u8], position: u64) -> EvtxEntry
+    ensures { λ r. ⌜ r ≡ entryIn (entryAt old (now (index .entry)) position) ⌝ }
+{
+    entry_answer(entries::entry_at(index, entries::Form::Old, position as usize))
+}
+
+// The first entry of an index with a record number.
+#[no_mangle]
+pub extern "C" fn evtx_index_find(index: &[u8], record_number: u64) -> EvtxEntry
+    ensures { λ r. ⌜ r ≡ entryIn (find old (now (index .entry)) «record_number») ⌝ }
+{
+    entry_answer(entries::find(index, entries::Form::Old, record_number))
+}
+
+// Writes an index with one entry more.
+#[no_mangle]
+pub extern "C" fn evtx_index_add(chunk: &[u8], index: &[u8], out: &mut [u8]) -> EvtxAnswer
+    ensures { λ r. ⌜ Answered (add old 0 (now (chunk .entry)) (now (index .entry)) (length (now (out .entry)))) (now (out .entry)) (now (out .exit))
+        (r .number) (r .length) ⌝ }
+{
+    index_answer(index::add(chunk, index, out))
 }
