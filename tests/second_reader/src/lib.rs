@@ -7,6 +7,7 @@ pub mod binxml;
 pub mod calendar;
 pub mod checksum;
 pub mod header;
+pub mod index;
 pub mod listing;
 pub mod numbers;
 pub mod record;

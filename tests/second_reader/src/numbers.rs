@@ -16,6 +16,8 @@ pub const WRONG_VALUE: u32 = 11;
 pub const OVER_LIMIT: u32 = 12;
 pub const NO_ROOM: u32 = 13;
 pub const AFTER_CLOSING: u32 = 14;
+pub const NUMBER_TOO_LARGE: u32 = 15;
+pub const NOT_AN_INDEX: u32 = 16;
 
 pub const FILE_HEADER_LENGTH: usize = 4_096;
 pub const CHUNK_LENGTH: usize = 65_536;
