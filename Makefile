@@ -6,7 +6,7 @@ MINUTES ?=
 SEED ?=
 PREFIX ?= /usr/local
 DESTDIR ?=
-VERSION = 0.4.0
+VERSION = 0.5.0
 
 program = target/bin/evtx_list
 # The same program: it carves where it is called by this name.

@@ -1,5 +1,5 @@
-/* EVTX reader: the calls that read headers, chunks and records of Windows XML event logs, search what comes in packets, and write the text
- * of a record.
+/* EVTX reader: the calls that read headers, chunks and records of Windows XML event logs, search what comes in packets, write the text of a
+ * record, and keep an index of a chunk.
  *
  * Numbers. Every answer begins with one of these:
  *    0  done
@@ -9,7 +9,7 @@
  *    4  a fixed header field wrong
  *    5  header checksum wrong
  *    6  record data checksum wrong
- *    7  no whole record stands at, or none at or after, the offset asked for
+ *    7  no whole record stands at, or none at or after, the offset asked for; no such entry of an index; no record left to add to it
  *    8  binary XML malformed
  *    9  pointer leaves the chunk
  *   10  substitution number not below the value count
@@ -17,6 +17,8 @@
  *   12  over a depth or count limit
  *   13  output room too small
  *   14  a call after the closing one
+ *   15  a record number of 2^48 or more, which an entry of an index has no room for
+ *   16  no index: its length is no multiple of 11, or bits that have to be zero are not
  * A refused call answers its number and zeros, and leaves all memory as it was. enum evtx_number has a name for each number, and
  * evtx_message a sentence.
  *
@@ -25,8 +27,9 @@
  * and nothing is read or written. An input may have any length and any content, and so may a store.
  *
  * Room. EVTX_MOST_RECORDS_OF_CHUNK entries are enough for evtx_search_chunk, and EVTX_MOST_RECORDS_OF_BYTES for evtx_search_bytes: with
- * them neither answers 13. EVTX_MOST_NUMBERS_OF_FEED numbers are enough for evtx_feed and evtx_close. For a text no room is always enough:
- * whoever is answered 13 asks evtx_text_length.
+ * them neither answers 13. EVTX_MOST_NUMBERS_OF_FEED numbers are enough for evtx_feed and evtx_close, EVTX_MOST_BYTES_OF_INDEX bytes for
+ * evtx_index_build, and EVTX_ENTRY_SIZE bytes more than the index has for evtx_index_add. For a text no room is always enough: whoever is
+ * answered 13 asks evtx_text_length.
  *
  * Offsets are counted from the first byte of the chunk, or of the bytes, that the call is lent; places from the first byte of the stream.
  *
@@ -36,6 +39,11 @@
  * begin, counted from byte 16, in 8 and 9, and how many they are in 10 and 11; they are the last of the stream, and where they would leave
  * the store they end with it. The stream is closed if byte 12 is not 0. Nothing is said of the other bytes. Any content is read in this way.
  *
+ * Indexes. The index of a chunk has an entry of EVTX_ENTRY_SIZE bytes for each record that evtx_search_chunk lists, in the same order. The
+ * fields of an entry are packed most significant bit first: the record's offset in 16 bits, its size in 16, its number in 48, the number that
+ * evtx_record_text refuses its text with where there is room for 65,536 bytes (0 if it does not) in 4, and 4 zero bits. The caller keeps the
+ * index. Any bytes whose length is a multiple of 11 and whose zero bits are zero are read as one, whatever chunk they came from, or none.
+ *
  * The rules in full, with every test in its order, every limit and the text of every type of value, are in docs/RULES.md of the sources. */
 #ifndef EVTX_H
 #define EVTX_H
@@ -43,9 +51,9 @@
 #include <stddef.h>
 #include <stdint.h>
 
-#define EVTX_VERSION "0.4.0"
+#define EVTX_VERSION "0.5.0"
 #define EVTX_VERSION_MAJOR 0
-#define EVTX_VERSION_MINOR 4
+#define EVTX_VERSION_MINOR 5
 #define EVTX_VERSION_PATCH 0
 
 /* How many bytes a file header has, and a chunk. */
@@ -66,6 +74,10 @@
 
 /* The most numbers that evtx_feed or evtx_close writes: two for each record of 28 bytes, in 65,520 bytes of a store and a packet. */
 #define EVTX_MOST_NUMBERS_OF_FEED 9360
+
+/* How many bytes an entry of an index has, and the index of a chunk at most: EVTX_MOST_RECORDS_OF_CHUNK entries. */
+#define EVTX_ENTRY_SIZE 11
+#define EVTX_MOST_BYTES_OF_INDEX 25542
 
 /* With it the compiler warns where a pointer is a null that it can see. */
 #if defined(__GNUC__)
@@ -93,7 +105,9 @@ enum evtx_number {
     EVTX_WRONG_VALUE,
     EVTX_OVER_LIMIT,
     EVTX_ROOM_TOO_SMALL = 13,
-    EVTX_AFTER_CLOSING = 14
+    EVTX_AFTER_CLOSING = 14,
+    EVTX_NUMBER_TOO_LARGE = 15,
+    EVTX_NOT_AN_INDEX = 16
 };
 
 /* length is a count of what the call says; 0 in a refusal */
@@ -124,6 +138,17 @@ typedef struct {
     uint32_t number;
     uint64_t length;
 } evtx_text;
+
+/* position counts the entries of the index from 0; chunk_number is always 0; refusal is that of the record's text, 0 if it has one */
+typedef struct {
+    uint32_t number;
+    uint64_t position;
+    uint64_t chunk_number;
+    uint64_t offset;
+    uint64_t size;
+    uint64_t record_number;
+    uint32_t refusal;
+} evtx_entry;
 
 /* Checks a file header. Answers 0, or 1 to 5 for the first test that fails: length, magic, version, fixed fields, checksum.
  * length is 0. */
@@ -196,6 +221,29 @@ evtx_text evtx_record_text(const uint8_t *chunk, size_t chunk_len, uint64_t offs
  * record can be made whose text has gigabytes: look at the length before you take memory for it. */
 evtx_text evtx_text_length(const uint8_t *chunk, size_t chunk_len, uint64_t offset) EVTX_NONNULL;
 
+/* The index of a chunk, with an entry for each record that evtx_search_chunk lists. The chunk's header is not looked at.
+ * EVTX_MOST_BYTES_OF_INDEX (25,542) bytes are always enough. Answers 0 with the index's length in bytes: it stands at the front of `out`, and
+ * the rest of `out` is as it was. Answers 1; then 15 if any of the records has a number of 2^48 or more; then 13 if the index is longer than
+ * `room`. A refused call leaves `out` as it was. */
+evtx_answer evtx_index_build(const uint8_t *chunk, size_t chunk_len, uint8_t *out, size_t room) EVTX_NONNULL;
+
+/* The entry at a position of an index, counted from 0. Answers 0 with what it says; 16 if the index is none, whichever of its entries is
+ * asked for; or 7 if there is no entry at this position. It is read as it stands: nothing is said of a record that it may be of. */
+evtx_entry evtx_index_entry(const uint8_t *index, size_t index_len, uint64_t position) EVTX_NONNULL;
+
+/* The first entry of an index with this record number. Answers 0 with its position and what it says; 16, as evtx_index_entry does; or 7
+ * exactly if no entry has this number. */
+evtx_entry evtx_index_find(const uint8_t *index, size_t index_len, uint64_t record_number) EVTX_NONNULL;
+
+/* The index with one entry more at its end: of the first record that evtx_search_chunk lists beyond the last entry's offset, or of the first
+ * if the index is empty. Nothing else that the entries hold decides which record that is. From an empty index, n calls with one chunk give
+ * the first n entries of what evtx_index_build writes, where that is not refused. EVTX_ENTRY_SIZE (11) bytes more than the index has are
+ * always enough. Answers 0 with the new index's length: it stands at the front of `out`, and the rest of `out` is as it was. Answers 1; then
+ * 16, as evtx_index_entry does; then 7 if no such record is left; then 15 if that record has a number of 2^48 or more; then 13 if the new
+ * index is longer than `room`. A refused call leaves `out` as it was. */
+evtx_answer evtx_index_add(const uint8_t *chunk, size_t chunk_len, const uint8_t *index, size_t index_len, uint8_t *out,
+                           size_t room) EVTX_NONNULL;
+
 /* What a number means, for people to read. It answers for any number. */
 static inline const char *evtx_message(uint32_t number)
 {
@@ -207,7 +255,7 @@ static inline const char *evtx_message(uint32_t number)
         "a fixed header field wrong",
         "header checksum wrong",
         "record data checksum wrong",
-        "no whole record at, or none at or after, the offset asked for",
+        "no whole record at, or none at or after, the offset asked for, no such entry of an index, or no record left to add to it",
         "binary XML malformed",
         "pointer leaves the chunk",
         "substitution number not below the value count",
@@ -215,6 +263,8 @@ static inline const char *evtx_message(uint32_t number)
         "over a depth or count limit",
         "output room too small",
         "a call after the closing one",
+        "record number of 2^48 or more, too large for an index",
+        "no index: length no multiple of 11, or zero bits not zero",
     };
     return number < sizeof messages / sizeof *messages ? messages[number] : "no number of this library";
 }
@@ -238,6 +288,9 @@ EVTX_HOLDS(offsetof(evtx_stretch, offset) == 8 && offsetof(evtx_stretch, length)
 EVTX_HOLDS(sizeof(evtx_fields) == 24 && offsetof(evtx_fields, number) == 0);
 EVTX_HOLDS(offsetof(evtx_fields, record_number) == 8 && offsetof(evtx_fields, written_time) == 16);
 EVTX_HOLDS(sizeof(evtx_text) == 16 && offsetof(evtx_text, number) == 0 && offsetof(evtx_text, length) == 8);
+EVTX_HOLDS(sizeof(evtx_entry) == 56 && offsetof(evtx_entry, number) == 0 && offsetof(evtx_entry, position) == 8);
+EVTX_HOLDS(offsetof(evtx_entry, chunk_number) == 16 && offsetof(evtx_entry, offset) == 24 && offsetof(evtx_entry, size) == 32);
+EVTX_HOLDS(offsetof(evtx_entry, record_number) == 40 && offsetof(evtx_entry, refusal) == 48);
 #undef EVTX_HOLDS
 #endif
 #undef EVTX_NONNULL

@@ -95,6 +95,10 @@ evtx_record_stretch(in, 8, 0)
 evtx_record_fields(in, 8, 0)
 evtx_record_text(in, 8, 0, out, 8)
 evtx_text_length(in, 8, 0)
+evtx_index_build(in, 8, out, 8)
+evtx_index_entry(in, 8, 0)
+evtx_index_find(in, 8, 0)
+evtx_index_add(in, 8, store, 8, out, 8)
 CALLS
 }
 

@@ -13,7 +13,7 @@ made=$(realpath target)/install
 root="$made/a root"
 tree="$root/opt/evtx"
 evtx="$tree/bin/evtx"
-library="$tree/lib/libevtx_c.so.0.4.0"
+library="$tree/lib/libevtx_c.so.0.5.0"
 completions="$tree/share/bash-completion/completions"
 usage='usage: evtx_list [--help | --version | FILE..]'
 carve_usage='usage: evtx_carve [--help | --version | FILE..]'
@@ -66,7 +66,7 @@ d 755 share/man
 d 755 share/man/man1
 f 644 include/evtx.h
 f 644 lib/libevtx_c.a
-f 644 lib/libevtx_c.so.0.4.0
+f 644 lib/libevtx_c.so.0.5.0
 f 644 lib/pkgconfig/evtx.pc
 f 644 share/bash-completion/completions/evtx
 f 644 share/man/man1/evtx.1
@@ -76,7 +76,7 @@ f 755 bin/evtx
 f 755 bin/evtx_list
 link bin/evtx_carve -> evtx_list
 link lib/libevtx_c.so -> libevtx_c.so.0
-link lib/libevtx_c.so.0 -> libevtx_c.so.0.4.0
+link lib/libevtx_c.so.0 -> libevtx_c.so.0.5.0
 link share/bash-completion/completions/evtx_carve -> evtx
 link share/bash-completion/completions/evtx_list -> evtx
 END
@@ -89,6 +89,10 @@ evtx_check_file_header
 evtx_close
 evtx_feed
 evtx_free_space_offset
+evtx_index_add
+evtx_index_build
+evtx_index_entry
+evtx_index_find
 evtx_next_in_bytes
 evtx_next_in_chunk
 evtx_record_fields
@@ -113,14 +117,14 @@ installed_files() {
 }
 
 versions() {
-    same "the version of pkg-config" 0.4.0 "$(PKG_CONFIG_PATH="$tree/lib/pkgconfig" pkg-config --modversion evtx)"
-    same "the version of the header" '"0.4.0"' "$(printf '#include <evtx.h>\nEVTX_VERSION\n' | gcc -E -P -I "$tree/include" - | tail -n 1)"
-    same "the version of the page evtx.1" '.TH EVTX 1 "" "evtx 0.4.0"' "$(grep '^\.TH' "$tree/share/man/man1/evtx.1")"
-    same "the version of the page evtx_list.1" '.TH EVTX_LIST 1 "" "evtx 0.4.0"' "$(grep '^\.TH' "$tree/share/man/man1/evtx_list.1")"
-    same "the version of the page evtx_carve.1" '.TH EVTX_CARVE 1 "" "evtx 0.4.0"' "$(grep '^\.TH' "$tree/share/man/man1/evtx_carve.1")"
-    answers "evtx --version" 0 'evtx 0.4.0' '' "$evtx" --version
-    answers "evtx list --version" 0 'evtx_list 0.4.0' '' "$evtx" list --version
-    answers "evtx carve --version" 0 'evtx_carve 0.4.0' '' "$evtx" carve --version
+    same "the version of pkg-config" 0.5.0 "$(PKG_CONFIG_PATH="$tree/lib/pkgconfig" pkg-config --modversion evtx)"
+    same "the version of the header" '"0.5.0"' "$(printf '#include <evtx.h>\nEVTX_VERSION\n' | gcc -E -P -I "$tree/include" - | tail -n 1)"
+    same "the version of the page evtx.1" '.TH EVTX 1 "" "evtx 0.5.0"' "$(grep '^\.TH' "$tree/share/man/man1/evtx.1")"
+    same "the version of the page evtx_list.1" '.TH EVTX_LIST 1 "" "evtx 0.5.0"' "$(grep '^\.TH' "$tree/share/man/man1/evtx_list.1")"
+    same "the version of the page evtx_carve.1" '.TH EVTX_CARVE 1 "" "evtx 0.5.0"' "$(grep '^\.TH' "$tree/share/man/man1/evtx_carve.1")"
+    answers "evtx --version" 0 'evtx 0.5.0' '' "$evtx" --version
+    answers "evtx list --version" 0 'evtx_list 0.5.0' '' "$evtx" list --version
+    answers "evtx carve --version" 0 'evtx_carve 0.5.0' '' "$evtx" carve --version
 }
 
 man_pages() {

@@ -44,6 +44,7 @@ static const struct {
     STRUCT(evtx_stretch, 24),
     STRUCT(evtx_fields, 24),
     STRUCT(evtx_text, 16),
+    STRUCT(evtx_entry, 56),
 };
 
 static const struct {
@@ -62,6 +63,13 @@ static const struct {
     FIELD(evtx_fields, written_time, 16, 8),
     FIELD(evtx_text, number, 0, 4),
     FIELD(evtx_text, length, 8, 8),
+    FIELD(evtx_entry, number, 0, 4),
+    FIELD(evtx_entry, position, 8, 8),
+    FIELD(evtx_entry, chunk_number, 16, 8),
+    FIELD(evtx_entry, offset, 24, 8),
+    FIELD(evtx_entry, size, 32, 8),
+    FIELD(evtx_entry, record_number, 40, 8),
+    FIELD(evtx_entry, refusal, 48, 4),
 };
 
 #define COUNT(table) (sizeof(table) / sizeof(*(table)))
@@ -101,6 +109,8 @@ static const struct {
     NUMBER(EVTX_OVER_LIMIT, 12),
     NUMBER(EVTX_ROOM_TOO_SMALL, 13),
     NUMBER(EVTX_AFTER_CLOSING, 14),
+    NUMBER(EVTX_NUMBER_TOO_LARGE, 15),
+    NUMBER(EVTX_NOT_AN_INDEX, 16),
     NUMBER(EVTX_FILE_HEADER_SIZE, 4096),
     NUMBER(EVTX_CHUNK_SIZE, 65536),
     NUMBER(EVTX_MOST_BYTES, 16777216),
@@ -112,6 +122,9 @@ static const struct {
     NUMBER(EVTX_MOST_STREAM, 1099511627776),
     /* two for each of 4,680 records of 28 bytes, in 65,520 and 65,536 bytes */
     NUMBER(EVTX_MOST_NUMBERS_OF_FEED, 9360),
+    NUMBER(EVTX_ENTRY_SIZE, 11),
+    /* 2,322 entries */
+    NUMBER(EVTX_MOST_BYTES_OF_INDEX, 25542),
 };
 
 static const char *const versions[] = { "EVTX_VERSION", "EVTX_VERSION_MAJOR", "EVTX_VERSION_MINOR", "EVTX_VERSION_PATCH" };
@@ -155,7 +168,20 @@ static void named(void)
 #define PACKET (CHUNK - SECOND)
 #define HELD (24 + STRETCH_LENGTH + 4)
 
-static uint8_t *chunk, *bytes, *out, *store;
+/* What is left of the second record's number where an index is to have it: 48 bits. */
+#define KEPT_NUMBER UINT64_C(0x334455667788)
+#define ENTRY 11u
+
+/* The index of the chunk, in which the second record has that number. The first record has 116 bytes beside its value, 8 more than document
+ * 01's example, and its text is longer than 65,536 bytes: 13. The others have no binary XML: 8. */
+static const uint8_t three[] = {
+    0x02, 0x00, 0x30, 0xad, 0, 0, 0, 0, 0, 1, 0xd0,
+    0x34, 0x56, 0x78, 0xb6, 0x33, 0x44, 0x55, 0x66, 0x77, 0x88, 0x80,
+    0xbc, 0xde, 0x00, 0x1c, 0, 0, 0, 0, 0, 2, 0x80,
+};
+
+/* `numbered` is the chunk with that number, and `entries` begins with its index. */
+static uint8_t *chunk, *bytes, *out, *store, *numbered, *entries;
 static uint32_t *offsets;
 static uint64_t *list;
 
@@ -212,6 +238,11 @@ static void lend(void)
     offsets = reserve(CHUNK, sizeof(uint32_t) * BIT(LONGEST_BIT));
     store = reserve(CHUNK, CHUNK + BIT(LONGEST_BIT));
     list = reserve(CHUNK, sizeof(uint64_t) * BIT(LONGEST_BIT));
+    numbered = reserve(CHUNK, CHUNK + BIT(LONGEST_BIT));
+    memcpy(numbered, chunk, CHUNK);
+    put(numbered + SECOND + 8, KEPT_NUMBER, 8);
+    entries = reserve(CHUNK, CHUNK + BIT(LONGEST_BIT));
+    memcpy(entries, three, sizeof three);
 }
 
 /* What a call answers, beside what is due. */
@@ -248,26 +279,65 @@ static void text(const char *call, const char *what, evtx_text is, uint32_t numb
     equal(call, what, "length", is.length, length);
 }
 
-/* A struct of more than 16 bytes is written to where a first parameter points that C does not show (System V ABI). So it can be seen which
- * bytes the library writes: all of each field, and none outside the struct. Here both fields after the number have 8 bytes. */
-typedef void *to_memory(void *answer, const uint8_t *chunk, size_t chunk_len, uint64_t offset);
-
-static void image(const char *call, to_memory *made, uint64_t first, uint64_t second)
+static void entry(const char *call, const char *what, evtx_entry is, const uint64_t due[7])
 {
-    uint8_t is[40], due[40];
-    memset(is, KEPT, sizeof is);
-    memset(due, KEPT, sizeof due);
-    made(is + 8, chunk, CHUNK, SECOND);
-    put(due + 8, 0, 4);
-    put(due + 16, first, 8);
-    put(due + 24, second, 8);
-    for (size_t i = 0; i < sizeof is; i++) {
+    equal(call, what, "number", is.number, due[0]);
+    equal(call, what, "position", is.position, due[1]);
+    equal(call, what, "chunk_number", is.chunk_number, due[2]);
+    equal(call, what, "offset", is.offset, due[3]);
+    equal(call, what, "size", is.size, due[4]);
+    equal(call, what, "record_number", is.record_number, due[5]);
+    equal(call, what, "refusal", is.refusal, due[6]);
+}
+
+static void no_entry(const char *call, const char *what, evtx_entry is, uint32_t number)
+{
+    entry(call, what, is, (const uint64_t[]){ number, 0, 0, 0, 0, 0, 0 });
+}
+
+/* A struct of more than 16 bytes is written to where a first parameter points that C does not show (System V ABI). So it can be seen which
+ * bytes the library writes: all of each field, and none outside the struct. Nothing is said of the bytes between two fields, or behind the
+ * last. `due` has the struct's fields in their order. */
+typedef void *to_memory(void *answer, const uint8_t *lent, size_t length, uint64_t asked);
+
+enum { BEFORE = 8, IMAGE = 80 };
+
+static void image(const char *call, const char *type, const uint8_t *is, const uint64_t *due)
+{
+    uint8_t laid[IMAGE], said[IMAGE];
+    memset(laid, KEPT, IMAGE);
+    memset(said, 1, IMAGE);
+    for (size_t i = 0; i < COUNT(structs); i++)
+        if (strcmp(structs[i].name, type) == 0)
+            memset(said + BEFORE, 0, structs[i].due);
+    for (size_t i = 0; i < COUNT(fields); i++)
+        if (strcmp(fields[i].type, type) == 0) {
+            put(laid + BEFORE + fields[i].offset_due, *due++, fields[i].width_due);
+            memset(said + BEFORE + fields[i].offset_due, 1, fields[i].width_due);
+        }
+    for (int i = 0; i < IMAGE; i++) {
         char where[32];
-        snprintf(where, sizeof where, "byte %d of the struct", (int)i - 8);
-        /* Nothing is said of the bytes between the number and the next field. */
-        if (i < 12 || i >= 16)
-            equal(call, "in memory", where, is[i], due[i]);
+        snprintf(where, sizeof where, "byte %d of the struct", i - BEFORE);
+        if (said[i])
+            equal(call, "in memory", where, is[i], laid[i]);
     }
+}
+
+static void image_of_record(const char *call, const char *type, to_memory *made, uint64_t first, uint64_t second)
+{
+    uint8_t is[IMAGE];
+    memset(is, KEPT, IMAGE);
+    made(is + BEFORE, chunk, CHUNK, SECOND);
+    image(call, type, is, (const uint64_t[]){ 0, first, second });
+}
+
+/* Of the second entry, by its position or its number. */
+static void image_of_entry(const char *call, to_memory *made, uint64_t asked)
+{
+    uint8_t is[IMAGE];
+    memset(is, KEPT, IMAGE);
+    made(is + BEFORE, entries, sizeof three, asked);
+    image(call, "evtx_entry", is, (const uint64_t[]){ 0, 1, 0, SECOND, HELD, KEPT_NUMBER, 8 });
 }
 
 /* The calls. The pointer at the front of each function has the types of the parameters by hand; the compiler refuses the header if it has
@@ -485,7 +555,7 @@ static void record_stretch(const char *name)
     stretch(name, "a record", call(chunk, CHUNK, SECOND), 0, SECOND + 24, STRETCH_LENGTH);
     stretch(name, "the smallest record", call(chunk, CHUNK, THIRD), 0, THIRD + 24, 0);
     stretch(name, "no record", call(chunk, CHUNK, SECOND + 1), 7, 0, 0);
-    image(name, (to_memory *)(void (*)(void))call, SECOND + 24, STRETCH_LENGTH);
+    image_of_record(name, "evtx_stretch", (to_memory *)(void (*)(void))call, SECOND + 24, STRETCH_LENGTH);
     for (unsigned b = 16; b < 64; b++)
         stretch(name, "an offset with one bit more", call(chunk, CHUNK, SECOND + BIT(b)), 7, 0, 0);
     for (unsigned b = 0; b <= LONGEST_BIT; b++)
@@ -497,7 +567,7 @@ static void record_fields(const char *name)
     evtx_fields (*call)(const uint8_t *, size_t, uint64_t) = evtx_record_fields;
     record(name, "a record", call(chunk, CHUNK, SECOND), 0, RECORD_NUMBER, WRITTEN_TIME);
     record(name, "no record", call(chunk, CHUNK, SECOND + 1), 7, 0, 0);
-    image(name, (to_memory *)(void (*)(void))call, RECORD_NUMBER, WRITTEN_TIME);
+    image_of_record(name, "evtx_fields", (to_memory *)(void (*)(void))call, RECORD_NUMBER, WRITTEN_TIME);
     for (unsigned b = 16; b < 64; b++)
         record(name, "an offset with one bit more", call(chunk, CHUNK, SECOND + BIT(b)), 7, 0, 0);
     for (unsigned b = 0; b <= LONGEST_BIT; b++)
@@ -542,19 +612,124 @@ static void text_length(const char *name)
         text(name, "a length with one bit more", call(chunk, CHUNK + BIT(b), FIRST), 1, 0);
 }
 
-/* The header has this one whole. 15 is the first number that no call answers. */
+/* What stands in `out`, beside the front of the index that is due. */
+static void written(const char *name, const char *what, size_t length)
+{
+    uint8_t due[sizeof three + ENTRY];
+    memset(due, KEPT, sizeof due);
+    memcpy(due, three, length);
+    equal(name, what, "what is written equals that due", memcmp(out, due, sizeof due) == 0, 1);
+    memset(out, KEPT, sizeof due);
+}
+
+static void index_build(const char *name)
+{
+    evtx_answer (*call)(const uint8_t *, size_t, uint8_t *, size_t) = evtx_index_build;
+    memset(out, KEPT, sizeof three + ENTRY);
+    answer(name, "one byte too few", call(numbered, CHUNK, out, sizeof three - 1), 13, 0);
+    written(name, "one byte too few", 0);
+    answer(name, "just enough room", call(numbered, CHUNK, out, sizeof three), 0, sizeof three);
+    written(name, "just enough room", sizeof three);
+    for (unsigned b = 6; b <= LONGEST_BIT; b++) {
+        answer(name, "a room of one bit", call(numbered, CHUNK, out, BIT(b)), 0, sizeof three);
+        written(name, "a room of one bit", sizeof three);
+    }
+    answer(name, "a number of 61 bits", call(chunk, CHUNK, out, CHUNK), 15, 0);
+    written(name, "a number of 61 bits", 0);
+    for (unsigned b = 0; b < 64; b++) {
+        put(numbered + SECOND + 8, BIT(b), 8);
+        answer(name, "a number of one bit", call(numbered, CHUNK, out, CHUNK), b < 48 ? 0 : 15, b < 48 ? sizeof three : 0);
+        for (unsigned k = 0; k < 6; k++)
+            equal(name, "a number of one bit", "its byte", out[ENTRY + 4 + k], b >= 48 ? KEPT : 5 - k == b / 8 ? BIT(b % 8) : 0);
+        memset(out, KEPT, sizeof three);
+    }
+    put(numbered + SECOND + 8, KEPT_NUMBER, 8);
+    for (unsigned b = 0; b <= LONGEST_BIT; b++)
+        answer(name, "a length with one bit more", call(numbered, CHUNK + BIT(b), out, CHUNK), 1, 0);
+}
+
+/* No power of two is a multiple of 11. */
+static void index_lengths(const char *name, evtx_entry (*call)(const uint8_t *, size_t, uint64_t), uint64_t asked)
+{
+    for (unsigned b = 0; b <= LONGEST_BIT; b++)
+        no_entry(name, "a length with one bit more", call(entries, sizeof three + BIT(b), asked), 16);
+    no_entry(name, "one byte too few", call(entries, sizeof three - 1, asked), 16);
+}
+
+static void index_entry(const char *name)
+{
+    evtx_entry (*call)(const uint8_t *, size_t, uint64_t) = evtx_index_entry;
+    entry(name, "the first", call(entries, sizeof three, 0), (const uint64_t[]){ 0, 0, 0, FIRST, 0x30ad, 1, 13 });
+    entry(name, "the second", call(entries, sizeof three, 1), (const uint64_t[]){ 0, 1, 0, SECOND, HELD, KEPT_NUMBER, 8 });
+    entry(name, "the last", call(entries, sizeof three, 2), (const uint64_t[]){ 0, 2, 0, THIRD, 28, 2, 8 });
+    no_entry(name, "behind the last", call(entries, sizeof three, 3), 7);
+    no_entry(name, "an index without the last", call(entries, sizeof three - ENTRY, 2), 7);
+    image_of_entry(name, (to_memory *)(void (*)(void))call, 1);
+    for (unsigned b = 2; b < 64; b++) {
+        no_entry(name, "a position of one bit", call(entries, sizeof three, BIT(b)), 7);
+        no_entry(name, "a position with one bit more", call(entries, sizeof three, 1 + BIT(b)), 7);
+    }
+    index_lengths(name, call, 1);
+}
+
+static void index_find(const char *name)
+{
+    evtx_entry (*call)(const uint8_t *, size_t, uint64_t) = evtx_index_find;
+    entry(name, "the first", call(entries, sizeof three, 1), (const uint64_t[]){ 0, 0, 0, FIRST, 0x30ad, 1, 13 });
+    entry(name, "the second", call(entries, sizeof three, KEPT_NUMBER), (const uint64_t[]){ 0, 1, 0, SECOND, HELD, KEPT_NUMBER, 8 });
+    entry(name, "the last", call(entries, sizeof three, 2), (const uint64_t[]){ 0, 2, 0, THIRD, 28, 2, 8 });
+    no_entry(name, "none", call(entries, sizeof three, 3), 7);
+    no_entry(name, "an index without the last", call(entries, sizeof three - ENTRY, 2), 7);
+    image_of_entry(name, (to_memory *)(void (*)(void))call, KEPT_NUMBER);
+    for (unsigned b = 0; b < 64; b++)
+        no_entry(name, "a number with another bit", call(entries, sizeof three, KEPT_NUMBER ^ BIT(b)), 7);
+    index_lengths(name, call, KEPT_NUMBER);
+}
+
+static void index_add(const char *name)
+{
+    evtx_answer (*call)(const uint8_t *, size_t, const uint8_t *, size_t, uint8_t *, size_t) = evtx_index_add;
+    memset(out, KEPT, sizeof three + ENTRY);
+    answer(name, "one byte too few", call(numbered, CHUNK, entries, ENTRY, out, 2 * ENTRY - 1), 13, 0);
+    written(name, "one byte too few", 0);
+    answer(name, "just enough room", call(numbered, CHUNK, entries, ENTRY, out, 2 * ENTRY), 0, 2 * ENTRY);
+    written(name, "just enough room", 2 * ENTRY);
+    for (unsigned b = 5; b <= LONGEST_BIT; b++) {
+        answer(name, "a room of one bit", call(numbered, CHUNK, entries, ENTRY, out, BIT(b)), 0, 2 * ENTRY);
+        written(name, "a room of one bit", 2 * ENTRY);
+    }
+    answer(name, "to no entries", call(numbered, CHUNK, entries, 0, out, CHUNK), 0, ENTRY);
+    written(name, "to no entries", ENTRY);
+    answer(name, "the last record", call(numbered, CHUNK, entries, 2 * ENTRY, out, CHUNK), 0, sizeof three);
+    written(name, "the last record", sizeof three);
+    answer(name, "no record left", call(numbered, CHUNK, entries, sizeof three, out, CHUNK), 7, 0);
+    written(name, "no record left", 0);
+    answer(name, "a number of 61 bits", call(chunk, CHUNK, entries, ENTRY, out, CHUNK), 15, 0);
+    written(name, "a number of 61 bits", 0);
+    answer(name, "that number is not added", call(chunk, CHUNK, entries, 2 * ENTRY, out, CHUNK), 0, sizeof three);
+    written(name, "that number is not added", sizeof three);
+    for (unsigned b = 0; b <= LONGEST_BIT; b++) {
+        answer(name, "a length with one bit more", call(numbered, CHUNK + BIT(b), entries, ENTRY, out, CHUNK), 1, 0);
+        answer(name, "an index with one bit more", call(numbered, CHUNK, entries, ENTRY + BIT(b), out, CHUNK), 16, 0);
+    }
+    written(name, "a length with one bit more", 0);
+}
+
+/* The header has this one whole. 17 is the first number that no call answers. */
 static void message(const char *name)
 {
     const char *(*call)(uint32_t) = evtx_message;
-    for (uint32_t m = 0; m < 15; m++) {
+    for (uint32_t m = 0; m < 17; m++) {
         equal(name, "a number of an answer", "it has a text", call(m)[0] != '\0', 1);
-        for (uint32_t n = m + 1; n <= 15; n++)
+        for (uint32_t n = m + 1; n <= 17; n++)
             equal(name, "two numbers", "their texts differ", strcmp(call(m), call(n)) != 0, 1);
     }
-    for (unsigned b = 4; b < 32; b++)
-        equal(name, "a number of one bit, above 14", "its text is that of 15", strcmp(call((uint32_t)BIT(b)), call(15)) == 0, 1);
-    equal(name, "the largest number", "its text is that of 15", strcmp(call(UINT32_MAX), call(15)) == 0, 1);
+    for (unsigned b = 5; b < 32; b++)
+        equal(name, "a number of one bit, above 16", "its text is that of 17", strcmp(call((uint32_t)BIT(b)), call(17)) == 0, 1);
+    equal(name, "the largest number", "its text is that of 17", strcmp(call(UINT32_MAX), call(17)) == 0, 1);
     equal(name, "14", "its text is that due", strcmp(call(14), "a call after the closing one") == 0, 1);
+    equal(name, "15", "its text is that due", strcmp(call(15), "record number of 2^48 or more, too large for an index") == 0, 1);
+    equal(name, "16", "its text is that due", strcmp(call(16), "no index: length no multiple of 11, or zero bits not zero") == 0, 1);
 }
 
 static const struct {
@@ -576,6 +751,10 @@ static const struct {
     { "evtx_record_fields", record_fields },
     { "evtx_record_text", record_text },
     { "evtx_text_length", text_length },
+    { "evtx_index_build", index_build },
+    { "evtx_index_entry", index_entry },
+    { "evtx_index_find", index_find },
+    { "evtx_index_add", index_add },
     { "evtx_message", message },
 };
 

@@ -162,10 +162,10 @@ pub(crate) fn usage(program: Program) {
 pub(crate) fn version(program: Program) {
     match program {
         Program::List => {
-            say(program, b"evtx_list 0.4.0\n");
+            say(program, b"evtx_list 0.5.0\n");
         }
         Program::Carve => {
-            say(program, b"evtx_carve 0.4.0\n");
+            say(program, b"evtx_carve 0.5.0\n");
         }
     }
 }
