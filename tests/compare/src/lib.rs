@@ -2,6 +2,7 @@
 //! compared: the first reader through its C interface, the second one directly.
 
 pub mod headers;
+pub mod indexes;
 pub mod nexts;
 pub mod records;
 pub mod searches;

@@ -6,11 +6,13 @@
 mod cases;
 mod fed;
 mod hand;
+mod hand_indexes;
 mod hand_streams;
+mod indexed;
 
 use cases::{Calls, Case};
 use compare::trial::Trial;
-use compare::{headers, nexts, records, searches, streams};
+use compare::{headers, indexes, nexts, records, searches, streams};
 use fed::Differing;
 use std::path::Path;
 use std::process::ExitCode;
@@ -20,7 +22,7 @@ use support::seed::take_seed;
 use support::tally::Tally;
 
 /// What each call must have answered in the end.
-const EXPECTED: [(&str, &[u32]); 13] = [
+const EXPECTED: [(&str, &[u32]); 17] = [
     ("evtx_check_file_header", &[0, 1, 2, 3, 4, 5]),
     ("evtx_check_chunk", &[0, 1, 2, 4, 5, 6]),
     (headers::FREE_SPACE_OFFSET, &[0, 1]),
@@ -34,6 +36,10 @@ const EXPECTED: [(&str, &[u32]); 13] = [
     (records::SIZE_IN_BYTES, &[0, 1, 7]),
     ("evtx_record_stretch", &[0, 1, 7]),
     ("evtx_record_fields", &[0, 1, 7]),
+    (indexes::BUILD, &[0, 1, 13, 15]),
+    (indexes::ENTRY, &[0, 7, 16]),
+    (indexes::FIND, &[0, 7, 16]),
+    (indexes::ADD, &[0, 1, 7, 13, 15, 16]),
 ];
 
 fn compare(case: &Case, tally: &mut Tally) -> Outcome {
@@ -47,7 +53,7 @@ fn compare(case: &Case, tally: &mut Tally) -> Outcome {
         nexts::compare(&mut trial, offset)?;
         records::compare(&mut trial, offset)?;
     }
-    Ok(())
+    indexes::compare_chunk(&mut trial, case.seed)
 }
 
 /// Prints what differs, and leaves the input in the build folder.
@@ -74,7 +80,15 @@ fn by_hand(tally: &mut Tally) -> Option<usize> {
             return None;
         }
     }
-    Some(cases.len() + streams.len())
+    let indexes = hand_indexes::all();
+    for case in &indexes {
+        if let Err(difference) = hand_indexes::compare(case, tally) {
+            let origin = Origin { kind: case.name, seed: 0, part: 0, bytes: &case.bytes() };
+            report_input(&difference, &origin);
+            return None;
+        }
+    }
+    Some(cases.len() + streams.len() + indexes.len())
 }
 
 /// Asks about what is generated. Answers how many inputs there were, if all agree.
@@ -89,9 +103,9 @@ fn generated(base: u64, tally: &mut Tally) -> Option<usize> {
     }
 }
 
-/// Feeds streams in packets. Answers how many there were, if all agree.
-fn in_packets(base: u64, tally: &mut Tally) -> Option<usize> {
-    match fed::compare_all(base, tally) {
+/// How many streams or indexes there were, if all agree.
+fn reported(outcome: Result<usize, Differing>) -> Option<usize> {
+    match outcome {
         Ok(count) => Some(count),
         Err(Differing { kind, seed, part, bytes, difference }) => {
             report_input(&difference, &Origin { kind, seed, part, bytes: &bytes });
@@ -125,11 +139,15 @@ fn main() -> ExitCode {
     let Some(hand) = by_hand(&mut tally) else { return ExitCode::FAILURE };
     let base = seed.unwrap_or(cases::SEED);
     let Some(cases) = generated(base, &mut tally) else { return ExitCode::FAILURE };
-    let Some(fed) = in_packets(base, &mut tally) else { return ExitCode::FAILURE };
+    let Some(fed) = reported(fed::compare_all(base, &mut tally)) else { return ExitCode::FAILURE };
+    let Some(indexed) = reported(indexed::compare_all(base, &mut tally)) else {
+        return ExitCode::FAILURE;
+    };
     print!("{tally}");
     if !complete(&tally) {
         return ExitCode::FAILURE;
     }
-    println!("{} inputs, {} answers, no difference", hand + cases + fed, tally.total());
+    let inputs = hand + cases + fed + indexed;
+    println!("{inputs} inputs, {} answers, no difference", tally.total());
     ExitCode::SUCCESS
 }

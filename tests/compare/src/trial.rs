@@ -1,7 +1,7 @@
 //! One input of a comparison: after each call the answers of both readers are
 //! compared here, and the lent memory is checked.
 
-use first_reader::answers::{Answer, Fields, Found, Stretch, Text};
+use first_reader::answers::{Answer, Entry, Fields, Found, Stretch, Text};
 use std::fmt::{Debug, Display};
 use support::difference::{Difference, Outcome};
 use support::lent::Lent;
@@ -22,7 +22,7 @@ macro_rules! numbered {
     };
 }
 
-numbered!(Answer, Found, Stretch, Fields, Text);
+numbered!(Answer, Found, Stretch, Fields, Text, Entry);
 
 pub struct Trial<'a> {
     pub bytes: &'a [u8],
@@ -34,6 +34,11 @@ impl<'a> Trial<'a> {
     /// Lends `bytes`, with `behind` after them, at an address that `shift` moves.
     pub fn new(bytes: &'a [u8], behind: &[u8], shift: u64, tally: &'a mut Tally) -> Trial<'a> {
         Trial { bytes, lent: Lent::input(bytes, behind, (shift % 8) as usize), tally }
+    }
+
+    /// Other bytes, with others behind them.
+    pub fn on<'b>(&'b mut self, bytes: &'b [u8], behind: &[u8]) -> Trial<'b> {
+        Trial::new(bytes, behind, bytes.len() as u64, self.tally)
     }
 
     /// Notes the number that a call is to answer.

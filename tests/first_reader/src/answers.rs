@@ -1,10 +1,10 @@
 //! What the calls answer. Each answer can also be made of what the second
 //! reader gives, to be compared.
 
-use second_reader::record;
+use second_reader::{index, record};
 
-/// What a check, a search, a packet, the end of a stream or a call for a record's
-/// size answers.
+/// What a check, a search, a packet, the end of a stream, a call that writes an
+/// index or one for a record's size answers.
 #[repr(C)]
 #[derive(Clone, Copy, Debug, PartialEq, Eq)]
 pub struct Answer {
@@ -44,6 +44,19 @@ pub struct Fields {
 pub struct Text {
     pub number: u32,
     pub length: u64,
+}
+
+/// What a call for an entry of an index answers.
+#[repr(C)]
+#[derive(Clone, Copy, Debug, PartialEq, Eq)]
+pub struct Entry {
+    pub number: u32,
+    pub position: u64,
+    pub chunk_number: u64,
+    pub offset: u64,
+    pub size: u64,
+    pub record_number: u64,
+    pub refusal: u32,
 }
 
 impl Answer {
@@ -97,5 +110,18 @@ impl From<Result<record::Fields, u32>> for Fields {
             }
             Err(number) => Fields { number, record_number: 0, written_time: 0 },
         }
+    }
+}
+
+impl From<Result<index::Placed, u32>> for Entry {
+    fn from(placed: Result<index::Placed, u32>) -> Entry {
+        let (number, position, entry) = match placed {
+            Ok(index::Placed { position, entry }) => (0, position, entry),
+            Err(number) => {
+                (number, 0, index::Entry { offset: 0, size: 0, record_number: 0, refusal: 0 })
+            }
+        };
+        let index::Entry { offset, size, record_number, refusal } = entry;
+        Entry { number, position, chunk_number: 0, offset, size, record_number, refusal }
     }
 }

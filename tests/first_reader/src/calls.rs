@@ -1,6 +1,6 @@
 //! The C interface as include/evtx.h declares it.
 
-use crate::answers::{Answer, Fields, Found, Stretch, Text};
+use crate::answers::{Answer, Entry, Fields, Found, Stretch, Text};
 
 // Not bundled: the archive is asked for where a program is linked that makes
 // calls, and nothing else needs it.
@@ -49,4 +49,15 @@ extern "C" {
     pub fn evtx_size_in_chunk(chunk: *const u8, length: usize, offset: u64) -> Answer;
     pub fn evtx_size_in_bytes(bytes: *const u8, length: usize, offset: u64) -> Answer;
     pub fn evtx_free_space_offset(chunk: *const u8, length: usize) -> Found;
+    pub fn evtx_index_build(chunk: *const u8, length: usize, out: *mut u8, room: usize) -> Answer;
+    pub fn evtx_index_entry(index: *const u8, length: usize, position: u64) -> Entry;
+    pub fn evtx_index_find(index: *const u8, length: usize, record_number: u64) -> Entry;
+    pub fn evtx_index_add(
+        chunk: *const u8,
+        length: usize,
+        index: *const u8,
+        index_length: usize,
+        out: *mut u8,
+        room: usize,
+    ) -> Answer;
 }

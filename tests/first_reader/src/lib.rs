@@ -4,7 +4,7 @@
 pub mod answers;
 pub mod calls;
 
-use answers::{Answer, Fields, Found, Stretch, Text};
+use answers::{Answer, Entry, Fields, Found, Stretch, Text};
 use calls::*;
 use support::lent::Lent;
 
@@ -122,4 +122,33 @@ pub fn size_in_bytes(bytes: &mut impl Lendable<u8>, offset: u64) -> Answer {
 
 pub fn free_space_offset(chunk: &mut impl Lendable<u8>) -> Found {
     unsafe { evtx_free_space_offset(chunk.pointer(), chunk.length()) }
+}
+
+pub fn index_build(chunk: &mut impl Lendable<u8>, out: &mut impl Lendable<u8>) -> Answer {
+    unsafe { evtx_index_build(chunk.pointer(), chunk.length(), out.pointer(), out.length()) }
+}
+
+pub fn index_entry(index: &mut impl Lendable<u8>, position: u64) -> Entry {
+    unsafe { evtx_index_entry(index.pointer(), index.length(), position) }
+}
+
+pub fn index_find(index: &mut impl Lendable<u8>, record_number: u64) -> Entry {
+    unsafe { evtx_index_find(index.pointer(), index.length(), record_number) }
+}
+
+pub fn index_add(
+    chunk: &mut impl Lendable<u8>,
+    index: &mut impl Lendable<u8>,
+    out: &mut impl Lendable<u8>,
+) -> Answer {
+    unsafe {
+        evtx_index_add(
+            chunk.pointer(),
+            chunk.length(),
+            index.pointer(),
+            index.length(),
+            out.pointer(),
+            out.length(),
+        )
+    }
 }

@@ -1,7 +1,7 @@
 //! Chunks, damaged or at a bound.
 
 use super::{cut, one, Input};
-use log_writer::{frame, put, Random, CHUNK, DATA};
+use log_writer::{frame, put, record, Random, CHUNK, DATA};
 use support::damage::{self, flip_bits, overlaps, zero_tail};
 use support::generate::*;
 
@@ -96,6 +96,25 @@ pub fn dense(random: &mut Random, _: usize) -> Vec<Input> {
 pub fn smallest_records(random: &mut Random, round: usize) -> Vec<Input> {
     let count = (CHUNK - DATA) / 28 - round;
     let data: Vec<u8> = (0..count).flat_map(|_| random_record(random, 28)).collect();
+    one(chunk_of(random, &data))
+}
+
+/// Records of few numbers, so that several have the same, up to and beyond what an
+/// index has room for.
+pub fn bound_numbers(random: &mut Random, round: usize) -> Vec<Input> {
+    const NUMBERS: [u64; 9] =
+        [0, 1, 40_112, 1 << 47, (1 << 48) - 2, (1 << 48) - 1, 1 << 48, (1 << 48) + 1, u64::MAX];
+    // Half of the chunks have no number that is too large, and some have just one.
+    let known = if round % 2 == 0 { 6 } else { NUMBERS.len() };
+    let count = random.pick(&[1, 2, 3, 30, 400]);
+    let large = (round % 4 == 2).then(|| random.below(count));
+    let mut data = Vec::new();
+    for index in 0..count {
+        let number = random.pick(&NUMBERS[..known]);
+        let number = if Some(index) == large { random.pick(&NUMBERS[6..]) } else { number };
+        let body = vec![0; random.below(60)];
+        data.extend(record(number, &body));
+    }
     one(chunk_of(random, &data))
 }
 

@@ -8,6 +8,7 @@
 mod listings;
 mod trial;
 
+use compare::indexes::REFUSAL;
 use compare::texts::{CALL, LENGTH_CALL};
 use compare_text::question::Question;
 use compare_text::{generated, hand};
@@ -18,9 +19,10 @@ use support::seed::take_seed;
 use support::tally::Tally;
 
 /// What each call or kind of line must have answered in the end.
-const EXPECTED: [(&str, &[u32]); 5] = [
+const EXPECTED: [(&str, &[u32]); 6] = [
     (CALL, &[0, 1, 7, 8, 9, 10, 11, 12, 13]),
     (LENGTH_CALL, &[0, 1, 7, 8, 9, 10, 11, 12]),
+    (REFUSAL, &[0, 8, 9, 10, 11, 12, 13]),
     (listings::HEADER_LINE, &[0, 1, 2, 3, 4, 5]),
     (listings::CHUNK_LINE, &[0, 2, 4, 5, 6]),
     (listings::RECORD_LINE, &[0, 8, 9, 10, 11, 12, 13]),

@@ -1,12 +1,14 @@
 //! One question to both readers: the length of the text of each record it asks
-//! for, and the text with rooms around that length.
+//! for, the text with rooms around that length, and the index of the chunk.
 
+use compare::indexes::{compare_texts, BUILD};
 use compare::texts::{self, with_room, Answer};
 use compare::trial::Trial;
 use compare_text::question::{Expected, Question};
-use second_reader::numbers::NO_ROOM;
+use second_reader::index::{Entry, Index};
+use second_reader::numbers::{DONE, NO_ROOM};
 use std::collections::BTreeSet;
-use support::difference::Outcome;
+use support::difference::{Difference, Outcome};
 use support::tally::Tally;
 
 const LARGE: usize = 65_536;
@@ -22,7 +24,28 @@ pub fn compare(question: &Question, tally: &mut Tally) -> Outcome {
             with_room(&mut trial, *offset, room, hand)?;
         }
     }
-    Ok(())
+    // The other questions of a round are mostly of the same chunk, with an edit.
+    match question.part {
+        0 => index(&mut trial, question),
+        _ => Ok(()),
+    }
+}
+
+/// The index of the question's chunk. What an entry says of a text that was worked
+/// out by hand has to be so by hand too.
+fn index(trial: &mut Trial, question: &Question) -> Outcome {
+    let built = compare_texts(trial, question.seed)?;
+    let (Some(expected), Ok(index)) = (&question.expected, built) else { return Ok(()) };
+    let due = by_hand(expected, LARGE).err().unwrap_or(DONE);
+    let asked = |entry: &&Entry| question.offsets.contains(&entry.offset);
+    let index = Index::of(&index).expect("an index");
+    match index.entries().iter().filter(asked).find(|entry| entry.refusal != due) {
+        None => Ok(()),
+        Some(Entry { offset, refusal, .. }) => {
+            let found = format!("both readers: refusal {refusal}\nby hand: {due}");
+            Err(Difference { call: BUILD, asked: format!("entry of offset {offset}"), found })
+        }
+    }
 }
 
 /// Rooms for a text of the length that the first reader answered: a text that is
