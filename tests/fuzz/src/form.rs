@@ -53,10 +53,24 @@ pub enum Calls {
     /// A store that begins with the first bytes, holds as many of the others as
     /// the offset says, and is fed the rest; and its end.
     Store,
+    /// The index of the bytes as a chunk, and one entry more behind one with the
+    /// offset.
+    Index,
+    /// The bytes as an index: the entry at the position that the offset says, some
+    /// numbers, and one entry more, of the base.
+    Entries,
 }
 
-pub const CALLS: [Calls; 6] =
-    [Calls::Record, Calls::Checks, Calls::Searches, Calls::Nexts, Calls::Packets, Calls::Store];
+pub const CALLS: [Calls; 8] = [
+    Calls::Record,
+    Calls::Checks,
+    Calls::Searches,
+    Calls::Nexts,
+    Calls::Packets,
+    Calls::Store,
+    Calls::Index,
+    Calls::Entries,
+];
 
 #[derive(Clone, Copy, Debug)]
 pub struct Head {

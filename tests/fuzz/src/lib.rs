@@ -3,6 +3,7 @@
 
 mod bases;
 mod form;
+mod indexed;
 mod packets;
 pub mod seeds;
 
@@ -33,5 +34,7 @@ pub fn one_input(input: &[u8], tally: &mut Tally) -> Outcome {
         Calls::Nexts => trial(&|trial| nexts::compare(trial, head.offset)),
         Calls::Packets => packets::stream(&head, &bytes, tally),
         Calls::Store => packets::store(&head, &bytes, tally),
+        Calls::Index => trial(&|trial| indexed::chunk(&head, trial)),
+        Calls::Entries => indexed::entries(&head, &bytes, tally),
     }
 }

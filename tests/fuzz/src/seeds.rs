@@ -1,13 +1,14 @@
 //! The inputs that a fuzzer begins with: the records of the chunks that inputs
 //! are laid over, generated questions, headers, sizes at the bounds, loose bytes,
-//! and streams with stores.
+//! streams with stores, and indexes.
 
 use crate::form::{pieces, Calls, Form, Head, CALLS, HEADER_SEALED, LONG, SEALED, SHORT};
 use crate::packets::STATED;
 use crate::{bases, LONGEST};
 use compare_text::generated;
 use compare_text::hand;
-use log_writer::{frame, put, Random, CHUNK, DATA};
+use log_writer::{chunk_with, frame, put, record, Random, CHUNK, DATA};
+use second_reader::index::{build, ENTRY_LENGTH};
 use second_reader::record::{record_stretch, search_chunk};
 use support::generate::{dense_bytes, sound_file_header};
 
@@ -26,6 +27,8 @@ pub fn all() -> Vec<Vec<u8>> {
     seeds.extend(bounds());
     seeds.extend(loose());
     seeds.extend(streams());
+    seeds.extend(indexes());
+    seeds.extend(numbers());
     seeds.retain(|seed| seed.len() <= LONGEST);
     seeds
 }
@@ -132,6 +135,46 @@ fn streams() -> Vec<Vec<u8>> {
                 let stated = stated(&mut random, first as u16);
                 seeds.push(asked(Calls::Store).input(&[&stated, &bytes[..]].concat()));
             }
+        }
+    }
+    seeds
+}
+
+/// The first entries of each base's index, without a byte, with a bit that has to
+/// be zero, and with an entry twice.
+fn indexes() -> Vec<Vec<u8>> {
+    let mut seeds = Vec::new();
+    for (number, chunk) in bases::all().iter().enumerate() {
+        let mut index = build(chunk, usize::MAX).expect("small numbers and any room");
+        index.truncate(4 * ENTRY_LENGTH);
+        let asked = |position: u64, room: usize| Head {
+            offset: position,
+            room,
+            ..head(Form::Loose, number, Calls::Entries)
+        };
+        seeds.push(asked(1, 55).input(&index));
+        seeds.push(asked(4, 54).input(&index));
+        seeds.push(asked(0, 55).input(&index[..index.len() - index.len().min(1)]));
+        seeds.push(asked(7, 400).input(&index.repeat(2)));
+        if let Some(last) = index.last_mut() {
+            *last |= 1 << (number % 4);
+        }
+        seeds.push(asked(1, 55).input(&index));
+    }
+    seeds
+}
+
+/// Records with numbers at the bounds of an index, and an entry more behind the
+/// first of them.
+fn numbers() -> Vec<Vec<u8>> {
+    const LARGEST: u64 = (1 << 48) - 1;
+    let mut seeds = Vec::new();
+    for numbers in [[0, LARGEST], [LARGEST, LARGEST + 1], [u64::MAX, 1]] {
+        let records: Vec<u8> = numbers.iter().flat_map(|number| record(*number, &[])).collect();
+        let chunk = chunk_with(DATA, &records);
+        for (offset, room) in [(0, 22), (DATA as u64, 21), (DATA as u64, 22), (540, 22)] {
+            let asked = Head { offset, room, ..head(Form::Pieces, 0, Calls::Index) };
+            seeds.push(asked.input(&pieces(&chunk, DATA)));
         }
     }
     seeds

@@ -101,6 +101,13 @@ impl Fenced {
         &self.touchable()[self.start..self.start + self.length]
     }
 
+    /// The lent bytes are `front`, and behind it all `kept`; what is not lent is as
+    /// it was.
+    pub fn holds(&self, front: &[u8], kept: u8) -> bool {
+        let (written, rest) = self.now().split_at(front.len());
+        written == front && rest.iter().all(|byte| *byte == kept) && self.rest_kept()
+    }
+
     /// What is not lent is as it was.
     pub fn rest_kept(&self) -> bool {
         let (front, back) = (&self.touchable()[..self.start], &self.touchable()[self.start..]);

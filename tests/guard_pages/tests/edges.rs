@@ -1,5 +1,6 @@
-//! Every call of the C interface but those for streams, on memory at the edge of
-//! a page that may not be touched, with the answers of the second reader.
+//! Every call of the C interface but those for streams and indexes, on memory at
+//! the edge of a page that may not be touched, with the answers of the second
+//! reader.
 
 use first_reader::answers::{Answer, Fields, Found, Stretch, Text};
 use first_reader::calls::evtx_search_bytes;
@@ -106,15 +107,9 @@ fn search(bytes: &[u8], input: &mut Fenced, first: First, second: Second) {
             let expected = Answer { number, length: offsets.len() as u64 };
             assert_eq!(first(input, &mut list), expected);
             let front: Vec<u8> = offsets.iter().flat_map(|offset| offset.to_le_bytes()).collect();
-            assert!(holds(&list, &front));
+            assert!(list.holds(&front, KEPT));
         }
     }
-}
-
-/// The memory holds `front` at its front, and all else is as it was.
-fn holds(memory: &Fenced, front: &[u8]) -> bool {
-    let (written, kept) = memory.now().split_at(front.len());
-    written == front && kept.iter().all(|byte| *byte == KEPT) && memory.rest_kept()
 }
 
 #[test]
@@ -161,7 +156,7 @@ fn text(chunk: &[u8], input: &mut Fenced, offset: u64, room: usize, edge: Edge) 
     };
     let expected = Text { number, length: text.len() as u64 };
     assert_eq!(first_reader::record_text(input, offset, &mut out), expected);
-    assert!(holds(&out, &text) && input.now() == chunk && input.rest_kept());
+    assert!(out.holds(&text, KEPT) && input.now() == chunk && input.rest_kept());
 }
 
 /// Asks for the length of the text. Answers rooms that are none, odd, and around it.

@@ -49,8 +49,7 @@ impl Asked<'_> {
             .flat_map(|(place, size)| [*place, *size])
             .flat_map(u64::to_le_bytes)
             .collect();
-        let (written, kept) = list.now().split_at(front.len());
-        assert!(written == front && kept.iter().all(|byte| *byte == KEPT) && list.rest_kept());
+        assert!(list.holds(&front, KEPT));
         match due {
             Ok((_, after)) => assert!(Stream::of(store.now()) == after),
             Err(_) => assert!(store.now() == self.store),
