@@ -62,7 +62,7 @@ build_c() {
     shared=$(pkg-config --cflags --libs evtx) || stop "pkg-config has no evtx"
     static=$(pkg-config --static --cflags --libs evtx) || stop "pkg-config has no static evtx"
     mkdir -p "$made/shared" "$made/static" || stop "$made cannot be made"
-    for name in list carve arrive text; do
+    for name in list carve arrive text index; do
         $c -o "$made/shared/$name" "examples/c/$name.c" $shared || stop "$name.c is not built over the shared library"
         $c -static -o "$made/static/$name" "examples/c/$name.c" $static || stop "$name.c is not built over the archive"
     done
@@ -79,7 +79,7 @@ build() {
 # Which library a program is linked with: the shared one has to be named in it by its soname, and the archive not at all.
 linked() {
     local name
-    for name in list carve arrive text; do
+    for name in list carve arrive text index; do
         echo 1 >"$made/due"
         check "$name is linked with the shared library" "$made/due" sh -c 'readelf -d "$0" | grep -cF "[libevtx_c.so.0]"' "$made/shared/$name"
         echo 0 >"$made/due"
@@ -185,11 +185,12 @@ END
 
 # Of the log that by_hand makes first.
 single_refusals() {
-    local name=$1 text=$made/shared/text
+    local name=$1 text=$made/shared/text none
+    none='no whole record at, or none at or after, the offset asked for, no such entry of an index, or no record left to add to it'
     echo '<P>-32768</P>' >"$made/due"
     check "text 0 512, by hand" "$made/due" "$text" "$name" 0 512
     told "text 0 622" 1 "text: $name: binary XML malformed" "$text" "$name" 0 622
-    told "text 0 513" 1 "text: $name: no whole record at, or none at or after, the offset asked for" "$text" "$name" 0 513
+    told "text 0 513" 1 "text: $name: $none" "$text" "$name" 0 513
     told "text 1 512" 1 "text: $name: no such chunk" "$text" "$name" 1 512
     told "text of no bytes" 1 "text: /dev/null: no such chunk" "$text" /dev/null 0 512
 }
@@ -269,6 +270,114 @@ across_windows() {
     rm -f "$log"
 }
 
+# What the example index keeps of a log, and its lines for all record numbers of the log and one more: indexes_due LISTING LOG INDEX LINES. The
+# listing gives place, number and refusal of each record, the log's own bytes give its size.
+indexes_due() {
+    python3 - "$@" <<'END'
+import sys
+listing, log, index, lines = sys.argv[1:]
+data, chunks, first = open(log, "rb").read(), [], {}
+for line in open(listing, "rb"):
+    word = line.split()
+    if word[0] == b"chunk":
+        chunks.append(b"")
+    elif word[0].isdigit():
+        at, number = int(word[0]), int(word[1])
+        size = int.from_bytes(data[4096 + 65536 * (len(chunks) - 1) + at + 4:][:4], "little")
+        refused = int(word[3]) if word[2] == b"refused" else 0
+        chunks[-1] += (at << 72 | size << 56 | number << 8 | refused << 4).to_bytes(11, "big")
+        first.setdefault(number, f"{number} {len(chunks) - 1} {at} {size} " + (f"refused {refused}" if refused else "text"))
+open(index, "wb").write(b"".join((len(chunk) // 11).to_bytes(2, "big") + chunk for chunk in chunks))
+open(lines, "w").write("\n".join(first.values()) + f"\n{max(first) + 1} none\n")
+END
+}
+
+# kept_index NAME DUE LOG: the example, which writes nothing but the file beside the log, leaves there what is due.
+kept_index() {
+    told "$1" 0 '' "$made/shared/index" "$3"
+    check "$1, what is kept" "$2" cat "$3.index"
+    : >"$made/due_files"
+    check "$1, nothing else is left" "$made/due_files" sh -c 'ls "$0".index.* 2>/dev/null || true' "$3"
+}
+
+sample_indexes() {
+    local log name copy=$made/indexed.evtx
+    for log in samples/*.evtx; do
+        cp "$log" "$copy" && rm -f "$copy.index" "$copy.index.new"
+        indexes_due "${log%.evtx}.listing" "$log" "$made/due_index" "$made/due_lines" || stop "the indexes of $log cannot be told"
+        kept_index "indexes, $log" "$made/due_index" "$copy"
+        kept_index "indexes once more, $log" "$made/due_index" "$copy"
+        for name in shared static; do
+            check "record numbers, $log, $name" "$made/due_lines" "$made/$name/index" "$copy" $(cut -d ' ' -f 1 "$made/due_lines")
+        done
+    done
+    rm -f "$copy" "$copy.index"
+}
+
+# chunk_of LENGTH RECORD..: a chunk with these records, which together have so many bytes, from 512 on.
+chunk_of() {
+    local length=$1 record
+    shift
+    zeros 512 && for record in "$@"; do $record; done && zeros $((65536 - 512 - length))
+}
+
+# The record of 28 bytes, with record number 2^48.
+numbered_record() {
+    printf '\x2a\x2a\0\0\x1c\0\0\0\0\0\0\0\0\0\x01\0' && zeros 8 && printf '\x1c\0\0\0'
+}
+
+# A log that grows: by a record, and by a chunk. Of the kept entries only the last offset is looked at, so one that was changed stays.
+grown_indexes() {
+    local log=$made/grown.evtx due=$made/due_index first='\x02\0\0\x6e\0\0\0\0\0\x01\0' second='\x02\x6e\0\x1c\0\0\0\0\0\x02\x80'
+    rm -f "$log.index" "$log.index.new"
+    { zeros 4096 && chunk_of 110 example_record && zeros 300; } >"$log"
+    printf '\0\x01'"$first" >"$due"
+    kept_index "indexes of one record" "$due" "$log"
+    { zeros 4096 && chunk_of 138 example_record small_record && zeros 300; } >"$log"
+    printf '\0\x02'"$first$second" >"$due"
+    kept_index "indexes with one record more" "$due" "$log"
+    printf '%s\n' '2 0 622 28 refused 8' '1 0 512 110 text' '3 none' '18446744073709551615 none' >"$made/due"
+    check "record numbers by hand" "$made/due" "$made/shared/index" "$log" 2 1 3 18446744073709551615
+    printf '\0\x01\x02\0\xff\xff\0\0\0\0\0\x07\xf0' >"$log.index"
+    { zeros 4096 && chunk_of 138 example_record small_record && chunk_of 0 && chunk_of 28 small_record; } >"$log"
+    printf '\0\x02\x02\0\xff\xff\0\0\0\0\0\x07\xf0'"$second"'\0\0\0\x01\x02\0\0\x1c\0\0\0\0\0\x02\x80' >"$due"
+    kept_index "indexes with two chunks more" "$due" "$log"
+    printf '%s\n' '7 0 512 65535 refused 15' '2 0 622 28 refused 8' '1 none' >"$made/due"
+    check "record numbers of what is kept" "$made/due" "$made/shared/index" "$log" 7 2 1
+    : >"$due" && rm -f "$log.index" && zeros 4095 >"$log"
+    kept_index "indexes of no chunk" "$due" "$log"
+    echo '1 none' >"$made/due"
+    check "a record number in no index" "$made/due" "$made/shared/index" "$log" 1
+}
+
+# What cannot be kept, and what is no file of indexes. The file that was there stays, and nothing is left beside it.
+refused_indexes() {
+    local log=$made/grown.evtx index=$made/shared/index none='no index: length no multiple of 11, or zero bits not zero'
+    local large='record number of 2^48 or more, too large for an index'
+    { zeros 4096 && chunk_of 56 small_record numbered_record; } >"$log"
+    rm -f "$log.index"
+    told "an index with a large number" 1 "index: $log: $large" "$index" "$log"
+    printf '\0\x01\x02\0\0\x1c\0\0\0\0\0\x02\x80' >"$log.index" && cp "$log.index" "$made/due_index"
+    told "a large number to be added" 1 "index: $log: $large" "$index" "$log"
+    check "a large number, what was kept" "$made/due_index" cat "$log.index"
+    printf '\0\x01\x02\0\0\x1c\0\0\0\0\0\x02\x84' >"$log.index"
+    told "a zero bit, to be added to" 1 "index: $log.index: $none" "$index" "$log"
+    told "a zero bit, to be asked" 1 "index: $log.index: $none" "$index" "$log" 2
+    printf '\0\x02\x02\0\0\x1c\0\0\0\0\0\x02\x80' >"$log.index"
+    told "too few entries" 1 "index: $log.index: not a file of indexes" "$index" "$log" 3
+    { printf '\x09\x13' && zeros $((11 * 2323)); } >"$log.index"
+    told "more entries than a chunk has" 1 "index: $log.index: not a file of indexes" "$index" "$log"
+    printf '\0' >"$log.index"
+    told "half a count" 1 "index: $log.index: not a file of indexes" "$index" "$log" 3
+    rm -f "$log.index" && ln -s /dev/full "$log.index.new"
+    { zeros 4096 && chunk_of 28 small_record; } >"$log"
+    told "indexes on a full disk" 1 "index: $log.index.new: No space left on device" "$index" "$log"
+    : >"$made/due"
+    check "refused indexes, nothing is left" "$made/due" sh -c 'ls "$0".index* 2>/dev/null || true' "$log"
+    told "no indexes" 1 "index: $log.index: No such file or directory" "$index" "$log" 1
+    rm -f "$log"
+}
+
 # The examples with a log as their last word. The signal of a closed pipe is set as it is by default, whatever this script was started with.
 plain() {
     env --default-signal=PIPE "$@"
@@ -276,6 +385,12 @@ plain() {
 
 one_text() {
     plain "$made/shared/text" "$1" 0 512
+}
+
+# More lines than a pipe holds, of a log whose indexes are kept; of one that has none, what is said without numbers.
+many_numbers() {
+    [ -e "$1.index" ] || { plain "$made/shared/index" "$1"; return; }
+    plain "$made/shared/index" "$1" $(seq 10000)
 }
 
 to_full() {
@@ -326,12 +441,15 @@ failures() {
     tells_failures carve '' "$long" plain "$made/shared/carve"
     tells_failures arrive '' "$long" plain "$made/shared/arrive"
     tells_failures text '' "$made/longtext.evtx" one_text
+    : >"$long.index" && : >"$made/hand.evtx.index"
+    tells_failures index '' "$long" many_numbers
     tells_failures list.py '' "$long" plain $python
     tells_failures evtx_safe numbers "$long" plain "$rust"
     for name in list carve arrive; do
         told "$name, closed output" 1 "$name: standard output: Bad file descriptor" to_closed "$made/shared/$name" "$long"
     done
     told "text, closed output" 1 "text: standard output: Bad file descriptor" to_closed one_text "$made/hand.evtx"
+    told "index, closed output" 1 "index: standard output: Bad file descriptor" to_closed many_numbers "$long"
     told "list.py, closed output" 1 "list.py: standard output: Bad file descriptor" to_closed $python "$long"
     told "evtx_safe, closed output, for which Rust puts /dev/null" 0 '' to_closed "$rust" "$long"
     wrong_arguments list LOG "$made/shared/list"
@@ -339,11 +457,14 @@ failures() {
     wrong_arguments arrive FILE "$made/shared/arrive"
     wrong_arguments text 'LOG CHUNK OFFSET' "$made/shared/text"
     told "text, no number" 2 "usage: text LOG CHUNK OFFSET" "$made/shared/text" samples/panel.evtx 0 -512
+    told "index, no arguments" 2 "usage: index LOG [NUMBER..]" "$made/shared/index"
+    told "index, no number" 2 "usage: index LOG [NUMBER..]" "$made/shared/index" samples/panel.evtx 1 -2
+    told "index, a number beyond 64 bits" 2 "usage: index LOG [NUMBER..]" "$made/shared/index" samples/panel.evtx 18446744073709551616
     wrong_arguments list.py LOG $python
     wrong_arguments evtx_safe LOG "$rust"
     told "list.py, no library" 1 "list.py: ./nolibrary.so: cannot open shared object file: No such file or directory" \
         env EVTX_LIBRARY=./nolibrary.so $python samples/panel.evtx
-    rm -f "$long"
+    rm -f "$long" "$long.index" "$made/hand.evtx.index"
 }
 
 build
@@ -352,6 +473,9 @@ samples
 by_hand
 long_text
 across_windows
+sample_indexes
+grown_indexes
+refused_indexes
 failures
 echo "examples: $checks checks, $failed failed"
 [ "$failed" -eq 0 ]
