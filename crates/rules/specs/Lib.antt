@@ -19,6 +19,7 @@ pub mod Packing
 pub mod Index
 pub mod Listing
 pub mod Carving
+pub mod Indexing
 pub mod Opened
 pub mod Samples
 pub mod EasyErrors

@@ -19,6 +19,7 @@ use Rattle.rules.specs.Packing.{joined, fields, packed, unpacked}
 use Rattle.rules.specs.Index.{entryBytes, build, rows, entries, isIndex, entryAt, find, add}
 use Rattle.rules.specs.Listing.{recordLine, recordLines, chunkLines, restLine, chunksLines, listing}
 use Rattle.rules.specs.Carving.{carvedLines}
+use Rattle.rules.specs.Indexing.{entryLines, chunksIndexed, indexing}
 
 unfoldable pub opened : Unit {0}
 unfolding crcBit crcBits crcByte crcOver crc32 fileHeaderTests checkFileHeader chunkTests checkChunk whole searchFrom lowestFrom searchChunk searchBytes
@@ -28,5 +29,5 @@ unfolding crcBit crcBits crcByte crcOver crc32 fileHeaderTests checkFileHeader c
     authorityText subsText sid types valueText literal substitution valueRead piece pieces attributeText attribute attributes attributeList itemValue item
     items content elementBody elementOver preamble descriptor valuesOf values layout definition instance fragmentBody fragment binXml element reading read
     textOf touched recordLine recordLines chunkLines restLine chunksLines listing canGrow walk left streamOf streamCall feed close carvedLines
-    joined fields packed unpacked entryBytes build rows entries isIndex entryAt find add
+    joined fields packed unpacked entryBytes build rows entries isIndex entryAt find add entryLines chunksIndexed indexing
 opened = tt
