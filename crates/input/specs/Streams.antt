@@ -5,8 +5,7 @@
 use mathlib.Core.Bool.{Bool}
 use mathlib.Core.List.{List, [], _∷_}
 use Prim.Native.Nat.{ℕ, _+_}
-use lib.Dec.{eqb, ltb}
-use lib.IntN.{ℤ, pos, negsuc}
+use lib.Dec.{eqb}
 use lib.ListN.{replicate, getD, set}
 use Rattle.rules.specs.Bytes.{if_then_else_}
 use Rattle.fletcher.specs.Sums.{withNumber, summed}
@@ -16,10 +15,6 @@ use Rattle.fletcher.specs.Sums.{withNumber, summed}
 pub data Event : Type 0 where
   read : ℕ → ℕ → List ℕ → Event
   write : List ℕ → Bool → Event
-
--- the system's descriptor of an input; where the number is none of its kind, -1, which no file has
-abbrev pub descriptorOf : ℕ → ℤ
-descriptorOf input = if ltb input 2_147_483_648 then pos input else negsuc 0
 
 -- The numbers that a listing keeps of its streams: two sums of all bytes that were taken from reads, each with the room it had and then its
 -- descriptor; two of all that were handed to writes, each with what it answered; and 1 if some write was not done, else 0.

@@ -1,4 +1,4 @@
-// The reads and the writes of a listing. No other file of the program takes bytes from an input, so that what no contract can say is said here:
+// The reads and the writes of a listing. No other file of the listing has bytes read from an input, so that what no contract can say is said here:
 // that a read takes the next bytes of its input, and that a write hands its bytes on.
 //
 // A listing has five numbers for its streams: a checksum of the bytes that were taken from reads, each with the room it had and the descriptor
@@ -8,9 +8,8 @@ ghost use mathlib.Core.Path.{_≡_};
 ghost use Prim.Native.Nat.{_+_, _≤_, _<_};
 ghost use lib.ListN.{length, take};
 ghost use Rattle.io.specs.Counts.{Counts};
-ghost use Rattle.input.specs.Streams.{nothing, descriptorOf, summedAt, mark, noted, afterRead, afterWrite, tookAll};
+ghost use Rattle.input.specs.Streams.{nothing, summedAt, mark, noted, afterRead, afterWrite, tookAll};
 use fletcher::Sums;
-use libc::STDERR_FILENO;
 use libc::STDOUT_FILENO;
 
 // The numbers before anything is read or written.
@@ -39,47 +38,6 @@ fn add(numbers: &mut [u64], at: usize, bytes: &[u8], last: u64)
     numbers[at + 1] = after.second;
 }
 
-// The system's descriptor of an input; one that no file has where the number is none.
-fn descriptor(input: u64) -> i32
-    ensures { λ r. ⌜ r ≡ descriptorOf input ⌝ }
-{
-    if input < 2147483648 { input as i32 } else { -1 }
-}
-
-// Says on standard error what the system gave as the reason that an input could not be read.
-fn tell(name: &[u8]) {
-    io::write_all(STDERR_FILENO, b"evtx_list: ");
-    os::fail(name);
-}
-
-// One read into the memory from a place on. A read that fails is told, and is then like the end of the input.
-fn read_more(memory: &mut [u8], from: usize, input: u64, name: &[u8]) -> usize
-    requires { ⌜ from ≤ length (now memory) ⌝ }
-    ensures { λ r. ⌜ from + r ≤ length (now (memory .entry)) ⌝ }
-{
-    let got = libc::read(descriptor(input), &mut memory[from..]);
-    if got < 0 {
-        tell(name);
-    }
-    io::count(got, &memory[from..])
-}
-
-// Reads until the memory is full or the input ends, and answers how many bytes then stand at its front. After the end nothing more is read,
-// so that a terminal ends its input once.
-fn fill(memory: &mut [u8], input: u64, name: &[u8]) -> usize
-    ensures { λ r. ⌜ Counts r (now (memory .exit)) ⌝ }
-{
-    let mut count = 0;
-    while count < memory.len() {
-        let more = read_more(memory, count, input, name);
-        if more == 0 {
-            return count;
-        }
-        count += more;
-    }
-    count
-}
-
 // Fills the memory from an input, as far as there is any, and answers how many bytes then stand at its front.
 pub(crate) fn read_in(streams: &mut [u64], memory: &mut [u8], input: u64, name: &[u8]) -> usize
     requires { ⌜ length (now streams) ≡ 5 ⌝ }
@@ -87,7 +45,7 @@ pub(crate) fn read_in(streams: &mut [u64], memory: &mut [u8], input: u64, name: 
     ensures { λ r. ⌜ now (streams .exit) ≡ afterRead (now (streams .entry)) input (length (now (memory .entry))) (take r (now (memory .exit))) ⌝ }
 {
     let room = memory.len() as u64;
-    let count = fill(memory, input, name);
+    let count = reads::fill(memory, input, b"evtx_list: ", name);
     add(streams, 0, &memory[..count], room);
     add(streams, 0, b"", input);
     count

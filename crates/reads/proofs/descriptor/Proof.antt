@@ -4,8 +4,8 @@ use borrow.Author.Tests.{lt-ltb, le-ltb}
 use mir.Syntax.{w32}
 use mir.ValLaws.{toZ-pos}
 use borrow.Author.Needs.{needs}
-use Rattle.input.proofs.streams.descriptor.Statement.{statement}
-use Rattle.input.proofs.streams.descriptor.Tie as tie
+use Rattle.reads.proofs.descriptor.Statement.{statement}
+use Rattle.reads.proofs.descriptor.Tie as tie
 
 returns : tie.Need-returns
 returns c = let n = c .before .args .input in toZ-pos w32 n (c .if1 .taken) ∙ rw (lt-ltb n 2_147_483_648 (c .if1 .taken)) refl

@@ -9,11 +9,11 @@ use Rattle.input.proofs.streams.read_in.Tie as tie
 returns : tie.Need-returns
 returns c =
     let b7 = c .before .before .before .before .before .before .before in let b12 = b7 .before .before .before .before .before in
-    let a = b12 .before .before .before .before .before .args in
+    let a = b12 .before .before .before .before .before .before .args in
     (b12 .fill .ensures, c .before .before .add2 .ensures ∙ ap (λ (s : Streams). summedAt s 0 [] (a .input)) (b7 .add .ensures))
 
 pub read-in-spec : {M : Type 1} → statement M
 read-in-spec =
     tie.close
-    (tie.spec (λ c κs. search needs) (λ c. search needs) (λ c. search needs) (λ c κs. search needs) (λ c. search needs) (λ c κs. search needs)
-    (λ c. search needs) (λ c. search needs) returns)
+    (tie.spec (λ c. search needs) (λ c κs. search needs) (λ c. search needs) (λ c. search needs) (λ c κs. search needs) (λ c. search needs)
+    (λ c κs. search needs) (λ c. search needs) (λ c. search needs) returns)
