@@ -10,10 +10,10 @@ use lib.ListN.{length, take, drop, length-take, length-drop}
 use lib.Seq.{take-all}
 use Rattle.rules.specs.Bytes.{if_then_else_, part, same, ascii}
 use Rattle.laws.specs.Tests.{both}
-use Rattle.arguments.specs.declared.Program.the-variants.{List as Lists, Carve}
+use Rattle.arguments.specs.declared.Program.the-variants.{List as Lists, Carve, Index}
 use Rattle.arguments.specs.declared.Word.{Word}
 use Rattle.arguments.specs.declared.Word.the-variants.{Input, Help, Version, Unknown, File}
-use Rattle.arguments.specs.Words.{asked, called}
+use Rattle.arguments.specs.Words.{asked, isNamed, called}
 
 -- lists that hold the same bytes have one length
 same-length : (xs ys : List ℕ) → same xs ys ≡ true → length xs ≡ length ys
@@ -57,26 +57,41 @@ module _ (w : List ℕ) where
         unfolding asked
         asked-file o = rw (i, h, v, o) refl
 
--- The program by its name: alone, or at the end of a path; else it lists.
-module _ (w : List ℕ) where
+-- A program's name: alone, or at the end of a path.
+module _ (known path w : List ℕ) where
   abbrev last : List ℕ
-  last = part (length w - 11) 11 w
+  last = part (length w - length path) (length path) w
 
-  pub called-alone : same w (ascii "evtx_carve") ≡ true → Carve ≡ called w
+  pub named-alone : same w known ≡ true → true ≡ isNamed known path w
+  named-alone a = rw a refl
+
+  module _ (a : same w known ≡ false) where
+    pub named-path : same last path ≡ isNamed known path w
+    named-path = rw a refl
+
+    -- fewer bytes than the end of the path has
+    pub named-short : length w < length path → false ≡ isNamed known path w
+    named-short h =
+        let most : length last ≤ length w =
+        omega (arith, length-take (length path) (drop (length w - length path) w), length-drop (length w - length path) w) in
+        rw a (not-same last path (λ e. omega (arith, e, most)))
+
+-- The program by its name.
+module _ (w : List ℕ) where
+  abbrev carves : Bool
+  carves = isNamed (ascii "evtx_carve") (ascii "/evtx_carve") w
+
+  abbrev indexes : Bool
+  indexes = isNamed (ascii "evtx_index") (ascii "/evtx_index") w
+
+  pub called-carve : carves ≡ true → Carve ≡ called w
   unfolding called
-  called-alone a = rw a refl
+  called-carve c = rw c refl
 
-  module _ (a : same w (ascii "evtx_carve") ≡ false) where
-    pub called-path : same last (ascii "/evtx_carve") ≡ true → Carve ≡ called w
-    unfolding called
-    called-path p = rw (a, p) refl
+  pub called-index : carves ≡ false → indexes ≡ true → Index ≡ called w
+  unfolding called
+  called-index c i = rw (c, i) refl
 
-    pub called-other : same last (ascii "/evtx_carve") ≡ false → Lists ≡ called w
-    unfolding called
-    called-other p = rw (a, p) refl
-
-    -- fewer bytes than the path has at least
-    pub called-short : length w < 11 → Lists ≡ called w
-    called-short h =
-        let most : length last ≤ length w = omega (arith, length-take 11 (drop (length w - 11) w), length-drop (length w - 11) w) in
-        called-other (sym (not-same last (ascii "/evtx_carve") (λ e. omega (arith, e, most))))
+  pub called-list : carves ≡ false → indexes ≡ false → Lists ≡ called w
+  unfolding called
+  called-list c i = rw (c, i) refl

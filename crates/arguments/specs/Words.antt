@@ -1,11 +1,11 @@
 -- What the words of a command line ask for.
-use mathlib.Core.Bool.{_||_}
+use mathlib.Core.Bool.{Bool, _||_}
 use mathlib.Core.List.{List}
 use Prim.Native.Nat.{ℕ, _-_}
 use lib.ListN.{length, take}
 use Rattle.rules.specs.Bytes.{if_then_else_, part, same, ascii}
 use Rattle.arguments.specs.declared.Program.{Program}
-use Rattle.arguments.specs.declared.Program.the-variants.{List as Lists, Carve}
+use Rattle.arguments.specs.declared.Program.the-variants.{List as Lists, Carve, Index}
 use Rattle.arguments.specs.declared.Word.{Word}
 use Rattle.arguments.specs.declared.Word.the-variants.{Input, Help, Version, Unknown, File}
 
@@ -18,6 +18,14 @@ asked w =
     else if same (take 1 w) (ascii "-") then Unknown
     else File
 
--- The name that a program was called by, a path or not: where its last part is `evtx_carve` it carves, else it lists.
+-- a name is the known one, or a path that ends in it: that end comes with its slash
+abbrev pub isNamed : List ℕ → List ℕ → List ℕ → Bool
+isNamed known path w = same w known || same (part (length w - length path) (length path) w) path
+
+-- The name that a program was called by, a path or not: where its last part is `evtx_carve` it carves, where it is `evtx_index` it indexes, else it
+-- lists.
 unfoldable pub called : List ℕ → Program
-called w = if same w (ascii "evtx_carve") || same (part (length w - 11) 11 w) (ascii "/evtx_carve") then Carve else Lists
+called w =
+    if isNamed (ascii "evtx_carve") (ascii "/evtx_carve") w then Carve
+    else if isNamed (ascii "evtx_index") (ascii "/evtx_index") w then Index
+    else Lists

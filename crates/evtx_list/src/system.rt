@@ -1,5 +1,5 @@
-// What the programs ask of the system beside the reads and the writes of a listing: their arguments, files by their names, and the lines that
-// they say of themselves.
+// What the programs ask of the system beside the reads of an input and the writes of a listing: their arguments, files by their names, lines on
+// standard output, and what they say of themselves.
 use arguments::Program;
 use libc::STDERR_FILENO;
 use libc::STDIN_FILENO;
@@ -39,6 +39,9 @@ pub(crate) fn tell(program: Program, what: &[u8]) {
         }
         Program::Carve => {
             io::write_all(STDERR_FILENO, b"evtx_carve: ");
+        }
+        Program::Index => {
+            io::write_all(STDERR_FILENO, b"evtx_index: ");
         }
     }
     os::fail(what);
@@ -103,17 +106,12 @@ pub(crate) fn open(program: Program, name: &[u8]) -> Opened {
     }
 }
 
-// The system's descriptor of an input; one that no file has where the number is none.
-pub(crate) fn descriptor(input: u64) -> i32 {
-    if input < 2147483648 { input as i32 } else { -1 }
-}
-
 // Closes a file that was opened.
 pub(crate) fn close(opened: Opened) {
     match opened {
         Opened::Not => (),
         Opened::At { input } => {
-            libc::close(descriptor(input));
+            libc::close(reads::descriptor(input));
         }
     }
 }
@@ -125,8 +123,18 @@ pub(crate) fn too_long(name: &[u8]) {
     io::write_all(STDERR_FILENO, b": longer than 1,099,511,627,776 bytes\n");
 }
 
-// Writes a line or more to standard output, and answers whether that was done.
-fn say(program: Program, text: &[u8]) -> bool {
+// Says on standard error that a chunk of an input has no index, with the number of the refusal.
+pub(crate) fn no_index(name: &[u8], k: u64, number: u32) {
+    let mut memory = [0u8; 64];
+    let end = line::index_line(&mut memory, 0, k, number);
+    io::write_all(STDERR_FILENO, b"evtx_index: ");
+    io::write_all(STDERR_FILENO, name);
+    io::write_all(STDERR_FILENO, b": ");
+    io::write_all(STDERR_FILENO, &memory[..end]);
+}
+
+// Writes lines to standard output, and answers whether that was done. Where it was not, that is told.
+pub(crate) fn say(program: Program, text: &[u8]) -> bool {
     let done = io::write_all(STDOUT_FILENO, text);
     if !done {
         tell(program, b"standard output");
@@ -156,6 +164,12 @@ pub(crate) fn usage(program: Program) {
                 b"usage: evtx_carve [--help | --version | FILE..]\n",
             );
         }
+        Program::Index => {
+            io::write_all(
+                STDERR_FILENO,
+                b"usage: evtx_index [--help | --version | [NUMBER] [FILE..]]\n",
+            );
+        }
     }
 }
 
@@ -166,6 +180,9 @@ pub(crate) fn version(program: Program) {
         }
         Program::Carve => {
             say(program, b"evtx_carve 0.5.0\n");
+        }
+        Program::Index => {
+            say(program, b"evtx_index 0.5.0\n");
         }
     }
 }
@@ -213,9 +230,33 @@ evtx_carve(1) says what a whole record is.
     );
 }
 
+fn help_of_index(program: Program) {
+    say(
+        program,
+        b"\
+usage: evtx_index [--help | --version | [NUMBER] [FILE..]]
+
+Builds the index of each chunk of Windows XML event logs (EVTX): a line for each
+index, and one for each entry, with the number of the chunk and the record's
+offset in it, size and number, and the number of its text's refusal or 0.
+
+  NUMBER     only the entries of records with this number are written
+  FILE       a log; - is standard input, which is also read without a FILE
+  --help     writes this help
+  --version  writes the version
+
+Where there are several, the lines of each begin with the line FILE: .
+What cannot be read or written is told on standard error, and so is, where a
+NUMBER is given, a chunk that has no index. The manual page evtx_index(1) says
+what the numbers mean.
+",
+    );
+}
+
 pub(crate) fn help(program: Program) {
     match program {
         Program::List => help_of_list(program),
         Program::Carve => help_of_carve(program),
+        Program::Index => help_of_index(program),
     }
 }
