@@ -94,7 +94,7 @@ $(carver): $(program)
 	@ln -sfn evtx_list $@
 
 $(archive): $(sources)
-	$(call prove,rt staticlib evtx_c,target/archive.log)
+	$(call prove,bash packaging/archive.sh,target/archive.log)
 
 # -z text: the linker refuses code that is not position independent.
 $(shared): $(archive) packaging/libevtx_c.map
