@@ -8,6 +8,7 @@ pub mod calendar;
 pub mod checksum;
 pub mod header;
 pub mod index;
+pub mod indexing;
 pub mod listing;
 pub mod numbers;
 pub mod record;
