@@ -2,6 +2,7 @@
 SHELL = bash
 .SHELLFLAGS = -o pipefail -c
 LOG ?= samples/panel.evtx
+NUMBER ?=
 MINUTES ?=
 SEED ?=
 PREFIX ?= /usr/local
@@ -9,8 +10,9 @@ DESTDIR ?=
 VERSION = 0.5.0
 
 program = target/bin/evtx_list
-# The same program: it carves where it is called by this name.
+# The same program: it carves where it is called by the first of these names, and indexes where it is called by the second.
 carver = target/bin/evtx_carve
+indexer = target/bin/evtx_index
 archive = target/staticlib/libevtx_c.a
 sources := crates.txt $(shell find crates -name '*.rt' -o -name '*.antt')
 root = $(DESTDIR)$(PREFIX)
@@ -25,6 +27,7 @@ installed = \
 	bin/evtx:755:packaging/evtx \
 	bin/evtx_list:755:$(program) \
 	bin/evtx_carve:link:evtx_list \
+	bin/evtx_index:link:evtx_list \
 	include/evtx.h:644:include/evtx.h \
 	lib/libevtx_c.a:644:$(archive) \
 	lib/libevtx_c.so.$(VERSION):644:$(shared) \
@@ -34,11 +37,13 @@ installed = \
 	share/man/man1/evtx.1:644:packaging/evtx.1 \
 	share/man/man1/evtx_list.1:644:packaging/evtx_list.1 \
 	share/man/man1/evtx_carve.1:644:packaging/evtx_carve.1 \
+	share/man/man1/evtx_index.1:644:packaging/evtx_index.1 \
 	$(completions)/evtx:644:packaging/evtx.bash \
 	$(completions)/evtx_list:link:evtx \
-	$(completions)/evtx_carve:link:evtx
+	$(completions)/evtx_carve:link:evtx \
+	$(completions)/evtx_index:link:evtx
 
-.PHONY: help test list carve install uninstall clean compare examples bench soak fuzz
+.PHONY: help test list carve index install uninstall clean compare examples bench soak fuzz
 .NOTPARALLEL:
 
 help: ## says what each target does
@@ -47,11 +52,14 @@ help: ## says what each target does
 test: ## proves every crate, tries the edits that must be refused and runs every check: the gate
 	@bash .ci/run
 
-list: $(program) $(carver) ## lists samples/panel.evtx, or the log named by LOG=path
+list: $(program) $(carver) $(indexer) ## lists samples/panel.evtx, or the log named by LOG=path
 	@$(program) "$(LOG)"
 
 carve: $(carver) ## lists the whole records in the bytes of samples/panel.evtx, or of the file named by LOG=path
 	@$(carver) "$(LOG)"
+
+index: $(indexer) ## writes the index of each chunk of samples/panel.evtx, or of the log named by LOG=path; with NUMBER=n only records with that number
+	@$(indexer) $(NUMBER) "$(LOG)"
 
 compare: $(program) ## compares our listing of LOG=path with the second reader's, and with those of public readers if installed
 	@bash tests/compare_log.sh $(program) "$(LOG)"
@@ -90,7 +98,7 @@ endef
 $(program): $(sources)
 	$(call prove,rt check evtx_list,target/program.log)
 
-$(carver): $(program)
+$(carver) $(indexer): $(program)
 	@ln -sfn evtx_list $@
 
 $(archive): $(sources)

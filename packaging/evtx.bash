@@ -1,6 +1,6 @@
-# Completion for bash, of evtx, evtx_list and evtx_carve. It is installed under the name of each, by which bash-completion finds it.
+# Completion for bash, of evtx, evtx_list, evtx_carve and evtx_index. It is installed under the name of each, by which bash-completion finds it.
 
-# An option, or a file.
+# An option, or a file. A record number is for the user to type.
 _evtx_files() {
     COMPREPLY=()
     case ${COMP_WORDS[COMP_CWORD]} in
@@ -13,11 +13,13 @@ _evtx_files() {
 _evtx() {
     COMPREPLY=()
     if [ "$COMP_CWORD" -eq 1 ]; then
-        mapfile -t COMPREPLY < <(compgen -W 'list carve help --help --version' -- "${COMP_WORDS[1]}")
-    elif [ "${COMP_WORDS[1]}" = list ] || [ "${COMP_WORDS[1]}" = carve ]; then
-        _evtx_files
+        mapfile -t COMPREPLY < <(compgen -W 'list carve index help --help --version' -- "${COMP_WORDS[1]}")
+    else
+        case ${COMP_WORDS[1]} in
+            list | carve | index) _evtx_files ;;
+        esac
     fi
 }
 
 complete -F _evtx evtx
-complete -F _evtx_files evtx_list evtx_carve
+complete -F _evtx_files evtx_list evtx_carve evtx_index

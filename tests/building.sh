@@ -1,5 +1,6 @@
 #!/usr/bin/env bash
-# What make shows while it builds, with a stand-in for rt in a folder under target/. What is due is written here by hand.
+# What make shows while it builds, and how it then calls the programs, with a stand-in for rt in a folder under target/. What is due is written
+# here by hand.
 #
 #     building.sh
 #
@@ -41,7 +42,7 @@ if [ -e fails ]; then
     exit 1
 fi
 mkdir -p target/bin
-printf '#!/bin/sh\necho "listing of $1"\n' >target/bin/evtx_list
+printf '#!/bin/sh\necho "${0##*/} of $*"\n' >target/bin/evtx_list
 chmod +x target/bin/evtx_list
 printf 'rt: c proved (2 s)'
 END
@@ -70,8 +71,13 @@ lay_out || stop "$made cannot be laid out"
 answers "a proof that fails" 2 '' "$first"$'\nrt: a proved (1 s)\nfn a::f: proved\nrt: a proved (1 s)
 rt: b proved (unchanged since it was last proved)\nrt: FAILED: c' make list LOG=x
 rm "$made/tree/fails"
-answers "make list" 0 'listing of x' "$first"$'\nrt: a proved (1 s)\nrt: c proved (2 s)' make list LOG=x
-answers "make list once more" 0 'listing of x' '' make list LOG=x
+answers "make list" 0 'evtx_list of x' "$first"$'\nrt: a proved (1 s)\nrt: c proved (2 s)' make list LOG=x
+answers "make list once more" 0 'evtx_list of x' '' make list LOG=x
+same "the names of the program" $'evtx_carve -> evtx_list\nevtx_index -> evtx_list\nevtx_list' \
+    "$(cd "$made/tree/target/bin" && find . -type l -printf '%P -> %l\n' -o -type f -printf '%P\n' | LC_ALL=C sort)"
+answers "make carve" 0 'evtx_carve of x' '' make carve LOG=x
+answers "make index" 0 'evtx_index of x y' '' make index LOG='x y'
+answers "make index, a number" 0 'evtx_index of 7 samples/panel.evtx' '' make index NUMBER=7
 same "all that rt said is in the log" 4 "$(grep -c '' "$made/tree/target/program.log")"
 # Whether a second pause ends before the last line comes is by chance.
 same "a long proof" $'rt: a proved (1 s)\nmake: still proving\nrt: b proved (2 s)' \

@@ -1,6 +1,7 @@
 #!/usr/bin/env bash
 # Installs into folders under target/, looks at what then stands there, calls the front from its place, and takes everything away again.
-# What is due is written here by hand, or is samples/panel.listing, which the second reader wrote, or samples/panel.carving (carving.sh).
+# What is due is written here by hand, or is samples/panel.listing or samples/panel.index, which the second reader wrote, or
+# samples/panel.carving (carving.sh).
 #
 #     install.sh
 #
@@ -17,9 +18,11 @@ library="$tree/lib/libevtx_c.so.0.5.0"
 completions="$tree/share/bash-completion/completions"
 usage='usage: evtx_list [--help | --version | FILE..]'
 carve_usage='usage: evtx_carve [--help | --version | FILE..]'
-front_usage='usage: evtx [--help | --version | help | list [FILE..] | carve [FILE..]]'
+index_usage='usage: evtx_index [--help | --version | [NUMBER] [FILE..]]'
+front_usage='usage: evtx [--help | --version | help | list [FILE..] | carve [FILE..] | index [NUMBER] [FILE..]]'
 listing=$(cat samples/panel.listing)
 carving=$(cat samples/panel.carving)
+indexing=$(cat samples/panel.index)
 checks=0
 failed=0
 
@@ -71,13 +74,16 @@ f 644 lib/pkgconfig/evtx.pc
 f 644 share/bash-completion/completions/evtx
 f 644 share/man/man1/evtx.1
 f 644 share/man/man1/evtx_carve.1
+f 644 share/man/man1/evtx_index.1
 f 644 share/man/man1/evtx_list.1
 f 755 bin/evtx
 f 755 bin/evtx_list
 link bin/evtx_carve -> evtx_list
+link bin/evtx_index -> evtx_list
 link lib/libevtx_c.so -> libevtx_c.so.0
 link lib/libevtx_c.so.0 -> libevtx_c.so.0.5.0
 link share/bash-completion/completions/evtx_carve -> evtx
+link share/bash-completion/completions/evtx_index -> evtx
 link share/bash-completion/completions/evtx_list -> evtx
 END
 }
@@ -122,15 +128,17 @@ versions() {
     same "the version of the page evtx.1" '.TH EVTX 1 "" "evtx 0.5.0"' "$(grep '^\.TH' "$tree/share/man/man1/evtx.1")"
     same "the version of the page evtx_list.1" '.TH EVTX_LIST 1 "" "evtx 0.5.0"' "$(grep '^\.TH' "$tree/share/man/man1/evtx_list.1")"
     same "the version of the page evtx_carve.1" '.TH EVTX_CARVE 1 "" "evtx 0.5.0"' "$(grep '^\.TH' "$tree/share/man/man1/evtx_carve.1")"
+    same "the version of the page evtx_index.1" '.TH EVTX_INDEX 1 "" "evtx 0.5.0"' "$(grep '^\.TH' "$tree/share/man/man1/evtx_index.1")"
     answers "evtx --version" 0 'evtx 0.5.0' '' "$evtx" --version
     answers "evtx list --version" 0 'evtx_list 0.5.0' '' "$evtx" list --version
     answers "evtx carve --version" 0 'evtx_carve 0.5.0' '' "$evtx" carve --version
+    answers "evtx index --version" 0 'evtx_index 0.5.0' '' "$evtx" index --version
 }
 
 man_pages() {
     local page
     command -v groff >/dev/null || { echo "install: groff is not installed, and the man pages were not looked at" && return; }
-    for page in evtx evtx_list evtx_carve; do
+    for page in evtx evtx_list evtx_carve evtx_index; do
         same "what groff says of $page.1" '' "$(groff -t -man -ww -b -Tutf8 "$tree/share/man/man1/$page.1" 2>&1 >/dev/null)"
     done
 }
@@ -148,13 +156,19 @@ completed() {
 }
 
 completion() {
-    completed "evtx" 'list carve help --help --version' evtx ''
+    completed "evtx" 'list carve index help --help --version' evtx ''
     completed "evtx l" list evtx l
     completed "evtx c" carve evtx c
     completed "evtx carve --" '--help --version' evtx carve --
     completed "evtx carve sam" 'compopt -o default' evtx carve sam
     completed "evtx_carve --v" --version evtx_carve --v
     completed "evtx_carve sam" 'compopt -o default' evtx_carve sam
+    completed "evtx i" index evtx i
+    completed "evtx index --" '--help --version' evtx index --
+    completed "evtx index sam" 'compopt -o default' evtx index sam
+    completed "evtx index 5 sam" 'compopt -o default' evtx index 5 sam
+    completed "evtx_index --v" --version evtx_index --v
+    completed "evtx_index 5 sam" 'compopt -o default' evtx_index 5 sam
     completed "evtx list --" '--help --version' evtx list --
     completed "evtx list sam" 'compopt -o default' evtx list sam
     completed "evtx help sam" '' evtx help sam
@@ -164,7 +178,7 @@ completion() {
 
 front_help() {
     cat <<'END'
-usage: evtx [--help | --version | help | list [FILE..] | carve [FILE..]]
+usage: evtx [--help | --version | help | list [FILE..] | carve [FILE..] | index [NUMBER] [FILE..]]
 
 Reads Windows XML event logs (EVTX).
 
@@ -172,6 +186,9 @@ Reads Windows XML event logs (EVTX).
                        evtx list --help says more
   evtx carve [FILE..]  finds the whole records in bytes of any size and origin;
                        evtx carve --help says more
+  evtx index [NUMBER] [FILE..]
+                       writes where the records of each FILE stand, or only
+                       those with this NUMBER; evtx index --help says more
   evtx help, --help    writes this text
   evtx --version       writes the version
 
@@ -217,6 +234,26 @@ evtx_carve(1) says what a whole record is.
 END
 }
 
+index_help() {
+    cat <<'END'
+usage: evtx_index [--help | --version | [NUMBER] [FILE..]]
+
+Builds the index of each chunk of Windows XML event logs (EVTX): a line for each
+index, and one for each entry, with the number of the chunk and the record's
+offset in it, size and number, and the number of its text's refusal or 0.
+
+  NUMBER     only the entries of records with this number are written
+  FILE       a log; - is standard input, which is also read without a FILE
+  --help     writes this help
+  --version  writes the version
+
+Where there are several, the lines of each begin with the line FILE: .
+What cannot be read or written is told on standard error, and so is, where a
+NUMBER is given, a chunk that has no index. The manual page evtx_index(1) says
+what the numbers mean.
+END
+}
+
 words_of_the_front() {
     answers "evtx" 2 '' "$front_usage" "$evtx"
     answers "evtx lists" 2 '' 'evtx: lists: no such subcommand; evtx help lists them' "$evtx" lists samples/panel.evtx
@@ -227,6 +264,9 @@ words_of_the_front() {
     answers "evtx list --wrong" 1 '' "$usage" "$evtx" list --wrong
     answers "evtx carve --help" 0 "$(carve_help)" '' "$evtx" carve --help
     answers "evtx carve --wrong" 1 '' "$carve_usage" "$evtx" carve --wrong
+    answers "evtx index --help" 0 "$(index_help)" '' "$evtx" index --help
+    answers "evtx index --wrong" 1 '' "$index_usage" "$evtx" index --wrong
+    answers "evtx indexes" 2 '' 'evtx: indexes: no such subcommand; evtx help lists them' "$evtx" indexes samples/panel.evtx
     answers "evtx carver" 2 '' 'evtx: carver: no such subcommand; evtx help lists them' "$evtx" carver samples/panel.evtx
 }
 
@@ -255,6 +295,24 @@ carvings() {
     answers "evtx carve, closed input" 1 '' 'evtx_carve: standard input: Bad file descriptor' sh -c '"$0" carve <&-' "$evtx"
     answers "evtx carve, full output" 1 '' 'evtx_carve: standard output: No space left on device' \
         sh -c '"$0" carve samples/panel.evtx >/dev/full' "$evtx"
+}
+
+# powercut.evtx ends in bytes of a third chunk, which has no index: where a number is looked for, the answer is not whole.
+indexings() {
+    answers "evtx index" 0 "$indexing" '' "$evtx" index samples/panel.evtx
+    answers "evtx index found by PATH" 0 "$indexing" '' env PATH="$tree/bin:$PATH" evtx index samples/panel.evtx
+    answers "evtx_index found by PATH" 0 "$indexing" '' env PATH="$tree/bin:$PATH" evtx_index samples/panel.evtx
+    answers "evtx index of a pipe" 0 "$indexing" '' sh -c 'cat samples/panel.evtx | "$0" index -' "$evtx"
+    answers "evtx index of a number" 0 '1 3846 91 298 0' '' "$evtx" index 298 samples/panel.evtx
+    answers "evtx index of a number in standard input" 0 '1 3846 91 298 0' '' sh -c '"$0" index 298 <samples/panel.evtx' "$evtx"
+    answers "evtx index of a number that is not there" 0 '' '' "$evtx" index 521 samples/panel.evtx
+    answers "evtx index of a log that was cut" 0 "$(cat samples/powercut.index)" '' "$evtx" index samples/powercut.evtx
+    answers "evtx index of a number in a log that was cut" 1 '1 3846 91 298 0' 'evtx_index: samples/powercut.evtx: index 2 refused 1' \
+        "$evtx" index 298 samples/powercut.evtx
+    answers "evtx index of a missing file" 1 '' 'evtx_index: nofile: No such file or directory' "$evtx" index nofile
+    answers "evtx index, closed input" 1 '' 'evtx_index: standard input: Bad file descriptor' sh -c '"$0" index 298 <&-' "$evtx"
+    answers "evtx index, full output" 1 '' 'evtx_index: standard output: No space left on device' \
+        sh -c '"$0" index samples/panel.evtx >/dev/full' "$evtx"
 }
 
 # broken_streams SHELL: the front as run by that shell, which differ in what becomes of a closed stream beside a pipe.
@@ -351,7 +409,7 @@ uninstalled() {
     mkdir -p "$tree/share/man/man1" "$tree/include" && echo foreign >"$tree/share/man/man1/foreign.1" || stop "$tree cannot be made"
     make_target install
     make_target install
-    same "the page of others beside ours" $'evtx.1\nevtx_carve.1\nevtx_list.1\nforeign.1' "$(ls "$tree/share/man/man1")"
+    same "the page of others beside ours" $'evtx.1\nevtx_carve.1\nevtx_index.1\nevtx_list.1\nforeign.1' "$(ls "$tree/share/man/man1")"
     make_target uninstall
     same "what is left where others are" "$(left_due)" "$(cd "$root" && find . | LC_ALL=C sort)"
     make_target uninstall
@@ -368,6 +426,7 @@ completion
 words_of_the_front
 listings
 carvings
+indexings
 broken_streams sh
 broken_streams bash
 same "a terminal as standard input" "1 $usage" "$(at_terminal)"
