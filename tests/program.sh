@@ -1,12 +1,12 @@
 #!/usr/bin/env bash
-# Runs the listing and the carving program as a user would, by themselves and by their front as `evtx list` and `evtx carve`, and compares
-# what they write to standard output and standard error, and the front's status, with what is due. That is samples/*.listing, which the second
-# reader wrote, samples/*.carving, which a search by the paper's rule wrote (carving.sh), and lines worked out by hand; never what a program
-# wrote before.
+# Runs the listing, the carving and the indexing program as a user would, by themselves and by their front as `evtx list`, `evtx carve` and
+# `evtx index`, and compares what they write to standard output and standard error, and the front's status, with what is due. That is
+# samples/*.listing and samples/*.index, which the second reader wrote, samples/*.carving, which a search by the paper's rule wrote (carving.sh),
+# and lines worked out by hand; never what a program wrote before.
 #
 #     program.sh [PROGRAM [FRONT]]
 #
-# PROGRAM is the one file of both programs.
+# PROGRAM is the one file of all three programs.
 # It ends in the line 'program: N checks, 0 failed' and status 0 exactly if everything held. A missing tool is a failure.
 set -u
 root=$(realpath "$(dirname "$0")/..") || exit 1
@@ -19,18 +19,18 @@ version=$(sed -n 's/^VERSION = //p' Makefile)
 checks=0
 failed=0
 
-# run_as list|carve: which of the programs the functions below run. Its lines of a log x.evtx stand in x.$lines; of an empty input it writes $none.
+# run_as list|carve|index: which of the programs the functions below run. Its lines of a log x.evtx stand in x.$lines; of an empty input it writes $none.
 run_as() {
     as=$1
     name=evtx_$1
     usage="usage: $name [--help | --version | FILE..]"
     closed_input="$name: standard input: Bad file descriptor"
     no_space="$name: standard output: No space left on device"
-    if [ "$1" = list ]; then
-        lines=listing none=$'header refused 1\n'
-    else
-        lines=carving none=
-    fi
+    case $1 in
+        list) lines=listing none=$'header refused 1\n' ;;
+        carve) lines=carving none= ;;
+        index) lines=index none= usage="usage: $name [--help | --version | [NUMBER] [FILE..]]" ;;
+    esac
 }
 
 stop() {
@@ -123,13 +123,13 @@ long_path() {
 
 set_up() {
     local tool
-    for tool in timeout script setpriv cmp diff mkfifo; do
+    for tool in timeout script setpriv cmp diff mkfifo python3; do
         command -v "$tool" >/dev/null || stop "$tool is not installed"
     done
     rm -rf "$made"
     mkdir -p "$bin" && mkfifo "$made/typed" || stop "$made cannot be made"
-    install -m 755 "$program" "$bin/evtx_list" && ln -s evtx_list "$bin/evtx_carve" && install -m 755 "$front" "$bin/evtx" ||
-        stop "the programs cannot be laid beside their front"
+    install -m 755 "$program" "$bin/evtx_list" && ln -s evtx_list "$bin/evtx_carve" && ln -s evtx_list "$bin/evtx_index" &&
+        install -m 755 "$front" "$bin/evtx" || stop "the programs cannot be laid beside their front"
     { cat samples/panel.evtx && for _ in {1..300}; do tail -c +4097 samples/panel.evtx; done; } >"$made/long.evtx" || stop "no long log"
     ln -s ../../samples/panel.evtx "$made/link.evtx" && ln -s loop "$made/loop" && : >"$made/empty.evtx" || stop "no links"
     # Not where TMPDIR says: that may be a folder of root's own.
@@ -231,6 +231,11 @@ names() {
             < <(printf '%s:\n' "$given"; cat samples/panel.$lines; printf 'empty.evtx:\n%s' "$none")
         rm "$made/$given"
     done
+    # The indexing program takes such a word for a number (names_of_digits).
+    [ "$as" != index ] || return
+    cp samples/panel.evtx "$made/40112"
+    holds 'the name 40112' 0 '' 'cd $made && "$@" 40112' <samples/panel.$lines
+    rm "$made/40112"
 }
 
 failing_output() {
@@ -282,36 +287,280 @@ largest_position() {
         "\"\$@\" samples/panel.evtx | grep -ao '<Position>[0-9]*' | tr -dc '0-9\n' | sort -n | tail -n 1" < <(echo 65397)
 }
 
-# called_as NAME WHERE.. : panel.evtx by the program under another name, which decides what is done; the file is the same one.
+# The smallest record, with this number. It has no binary XML: its text is refused with 8.
+record() {
+    local bit
+    printf '**\0\0\x1c\0\0\0'
+    for bit in 0 8 16 24 32 40 48 56; do
+        printf "\\x$(printf '%02x' $(($1 >> bit & 255)))"
+    done
+    printf '\0\0\0\0\0\0\0\0\x1c\0\0\0'
+}
+
+# A chunk of such records, with these numbers.
+chunk() {
+    local number
+    head -c 512 /dev/zero
+    for number; do
+        record "$number"
+    done
+    head -c $((65536 - 512 - 28 * $#)) /dev/zero
+}
+
+# Two logs, whose file headers are zero, and what their indexes say: one whose chunks all have an index; and one with chunks that have none, since
+# of 5 and 2^48, and of 2^64 - 1 and 5, one is too large for an entry, and 65,535 bytes are left over.
+make_logs() {
+    { head -c 4096 /dev/zero; chunk 5 9 5; chunk 0 5 281474976710655; } >"$made/numbers.evtx" || return
+    { head -c 4096 /dev/zero; chunk 5; chunk 5 281474976710656; chunk 281474976710655 5; chunk -1 5; chunk 5 | head -c 65535; } >"$made/refused.evtx" ||
+        return
+    cat >"$made/numbers.index" <<'END'
+index 0 ok
+0 512 28 5 8
+0 540 28 9 8
+0 568 28 5 8
+index 1 ok
+1 512 28 0 8
+1 540 28 5 8
+1 568 28 281474976710655 8
+END
+    cat >"$made/refused.index" <<'END'
+index 0 ok
+0 512 28 5 8
+index 1 refused 15
+index 2 ok
+2 512 28 281474976710655 8
+2 540 28 5 8
+index 3 refused 15
+index 4 refused 1
+END
+}
+
+# What is told of the second log where a number is given, by the name of the input.
+without_index() {
+    local refused
+    for refused in '1 refused 15' '3 refused 15' '4 refused 1'; do
+        echo "$name: $1: index $refused"
+    done
+}
+
+# number WORD LINE..: the lines due of the first log where this number is given.
+number() {
+    local word=$1 due=
+    shift
+    [ $# -eq 0 ] || due=$(printf '%s\n' "$@" x)
+    holds "NUMBER ${word:0:50} of ${#word} digits" 0 '' "\"\$@\" $word \$made/numbers.evtx" < <(printf '%s' "${due%x}")
+}
+
+numbers_given() {
+    local fives=('0 512 28 5 8' '0 568 28 5 8' '1 540 28 5 8') zero='1 512 28 0 8' largest='1 568 28 281474976710655 8' word
+    for word in 5 05 00000000000000000000000000000005; do
+        number "$word" "${fives[@]}"
+    done
+    number 9 '0 540 28 9 8'
+    for word in 0 000 00000000000000000000000000000000; do
+        number "$word" "$zero"
+    done
+    number 281474976710655 "$largest"
+    number 0281474976710655 "$largest"
+    # Cut to 32, 48, 64 or 128 bits, the numbers of the first line would be 5, and those of the second 0; and those of the third the largest one.
+    for word in 4294967301 281474976710661 18446744073709551621 340282366920938463463374607431768211461 \
+        4294967296 281474976710656 18446744073709551616 340282366920938463463374607431768211456 \
+        562949953421311 18446744073709551615 36893488147419103231 1 8 28 50 55 59 512; do
+        number "$word"
+    done
+    for word in 100 4096; do
+        number "$(head -c "$word" /dev/zero | tr '\0' 5)"
+        number "$(head -c $((word - 1)) /dev/zero | tr '\0' 0)5" "${fives[@]}"
+    done
+}
+
+numbers_and_files() {
+    local line='1 3846 91 298 0'
+    holds 'NUMBER and a sample' 0 '' '"$@" 298 samples/panel.evtx' < <(echo "$line")
+    holds 'NUMBER alone, standard input' 0 '' '"$@" 298 <samples/panel.evtx' < <(echo "$line")
+    holds 'NUMBER and -' 0 '' '"$@" 298 - <samples/panel.evtx' < <(echo "$line")
+    holds 'NUMBER and a pipe in small pieces' 0 '' '{ for n in {1..100}; do head -c 1500; sleep 0.01; done <samples/panel.evtx; } | "$@" 298' \
+        < <(echo "$line")
+    says 'NUMBER and an empty file' 0 '' '"$@" 0 $made/empty.evtx'
+    says 'NUMBER alone, an empty standard input' 0 '' '"$@" 0'
+    holds 'NUMBER and two files' 0 '' '"$@" 298 samples/panel.evtx samples/windows.evtx' \
+        < <(printf '%s\n' samples/panel.evtx: "$line" samples/windows.evtx:)
+    holds 'NUMBER, a file and -' 0 '' '"$@" 298 samples/windows.evtx - <samples/panel.evtx' < <(printf '%s\n' samples/windows.evtx: -: "$line")
+    says 'NUMBER and a missing file' 1 "$name: nofile: No such file or directory" '"$@" 298 nofile'
+    says 'NUMBER and the empty name' 1 "$name: : No such file or directory" '"$@" 298 ""'
+    says 'NUMBER, closed input' 1 "$closed_input" '"$@" 298 <&-'
+    holds 'NUMBER, a folder and a file' 1 "$name: samples: Is a directory" '"$@" 298 samples samples/panel.evtx' \
+        < <(printf '%s\n' samples: samples/panel.evtx: "$line")
+    says 'NUMBER, a full disk' 1 "$no_space" '"$@" 298 samples/panel.evtx >/dev/full'
+    says 'NUMBER, a terminal' 1 "$usage" 'from_terminal "" "$@" 298'
+    says 'NUMBER, a terminal and -' 0 '' 'from_terminal "\4" "$@" 298 -'
+    holds 'NUMBER, a terminal and a file' 0 '' 'from_terminal "" "$@" 298 samples/panel.evtx' < <(echo "$line")
+    holds 'NUMBER and --help' 0 '' 'help_of "$@" 298 --help' < <(printf '%s\n' "$usage" version file 'standard input')
+    holds 'NUMBER and --version' 0 '' '"$@" 298 --version' < <(echo "$name $version")
+    says 'NUMBER and an unknown option' 1 "$usage" '"$@" 298 -x'
+    says 'a number with a sign' 1 "$usage" '"$@" -5 samples/panel.evtx'
+}
+
+# A file whose name has digits alone is one behind the first word, and with a folder before it.
+names_of_digits() {
+    local line='1 3846 91 298 0' word
+    cp samples/panel.evtx "$made/40112"
+    holds 'the file ./40112' 0 '' 'cd $made && "$@" ./40112' <samples/panel.index
+    holds 'the file 40112 by its path' 0 '' '"$@" $PWD/$made/40112' <samples/panel.index
+    says '40112 alone is a NUMBER' 0 '' 'cd $made && "$@" 40112'
+    says '40112 and the file 40112' 0 '' 'cd $made && "$@" 40112 40112'
+    holds 'NUMBER and the file 40112' 0 '' 'cd $made && "$@" 298 40112' < <(echo "$line")
+    holds 'NUMBER and the file ./40112' 0 '' 'cd $made && "$@" 298 ./40112' < <(echo "$line")
+    holds 'the file 40112 after another' 0 '' 'cd $made && "$@" empty.evtx 40112' < <(printf '%s\n' empty.evtx: 40112:; cat samples/panel.index)
+    holds 'the file 40112 after -' 0 '' 'cd $made && "$@" - 40112' < <(printf '%s\n' -: 40112:; cat samples/panel.index)
+    holds 'NUMBER and two files of digits' 1 "$name: 5: No such file or directory" 'cd $made && "$@" 298 40112 5' \
+        < <(printf '%s\n' 40112: "$line" 5:)
+    for word in +5 5x x5 5. 5,000 0x5 1e3 ' 5' '5 ' $'5\n' $'\xd9\xa5' 5/ /5 5:; do
+        refused "$word" 'No such file or directory'
+    done
+    refused "$(printf '5%.0s' {1..256})x" 'File name too long'
+    says '5,000 digits and a letter' 1 "$name: an argument: File name too long" '"$@" "$(printf "5%.0s" {1..5000})x"'
+    rm "$made/40112"
+}
+
+# The answer to a number is not whole where a chunk has no index; without a number the lines say so themselves.
+chunks_without_index() {
+    local where given=$'odd\xff: name'
+    holds 'all numbers of a log' 0 '' '"$@" $made/numbers.evtx' <"$made/numbers.index"
+    holds 'chunks without an index' 0 '' '"$@" $made/refused.evtx' <"$made/refused.index"
+    holds 'chunks without an index, standard input' 0 '' '"$@" <$made/refused.evtx' <"$made/refused.index"
+    holds 'chunks without an index, two files' 0 '' '"$@" $made/refused.evtx $made/numbers.evtx' < <(headed $made/refused.evtx $made/numbers.evtx)
+    holds 'NUMBER, chunks without an index' 1 "$(without_index "$made/refused.evtx")" '"$@" 5 $made/refused.evtx' \
+        < <(printf '%s\n' '0 512 28 5 8' '2 540 28 5 8')
+    holds 'NUMBER, chunks without an index, standard input' 1 "$(without_index 'standard input')" '"$@" 5 <$made/refused.evtx' \
+        < <(printf '%s\n' '0 512 28 5 8' '2 540 28 5 8')
+    holds 'the largest number, chunks without an index, -' 1 "$(without_index 'standard input')" '"$@" 281474976710655 - <$made/refused.evtx' \
+        < <(echo '2 512 28 281474976710655 8')
+    says 'a number that is too large for an entry' 1 "$(without_index "$made/refused.evtx")" '"$@" 281474976710656 $made/refused.evtx'
+    says 'a number that is nowhere, chunks without an index' 1 "$(without_index "$made/refused.evtx")" '"$@" 7 $made/refused.evtx'
+    holds 'NUMBER, chunks without an index between others' 1 "$(without_index "$made/refused.evtx")" \
+        '"$@" 9 $made/numbers.evtx $made/refused.evtx samples/panel.evtx' \
+        < <(printf '%s\n' "$made/numbers.evtx:" '0 540 28 9 8' "$made/refused.evtx:" samples/panel.evtx: '0 1367 83 9 0')
+    cp "$made/refused.evtx" "$made/$given"
+    export given
+    says 'a number that is nowhere, an odd name' 1 "$(without_index "$given")" 'cd $made && "$@" 7 "$given"'
+    rm "$made/$given"
+    for where in '2>&-' '2>/dev/full'; do
+        holds "$where, NUMBER, chunks without an index" 1 '' "\"\$@\" 5 $made/refused.evtx $where" < <(printf '%s\n' '0 512 28 5 8' '2 540 28 5 8')
+    done
+    # A file header that is cut off, and one byte and all but one of a chunk behind it.
+    for where in 4095 4096; do
+        says "NUMBER, $where bytes" 0 '' "head -c $where samples/panel.evtx | \"\$@\" 1"
+        says "$where bytes" 0 '' "head -c $where samples/panel.evtx | \"\$@\""
+    done
+    for where in 4097 69631; do
+        says "NUMBER, $where bytes" 1 "$name: standard input: index 0 refused 1" "head -c $where samples/panel.evtx | \"\$@\" 1"
+        holds "$where bytes" 0 '' "head -c $where samples/panel.evtx | \"\$@\"" < <(echo 'index 0 refused 1')
+    done
+}
+
+# The lines of the first chunk are there while the second one has not come.
+chunk_by_chunk() {
+    local due
+    due=$(sed '/^index 1 /,$d' samples/panel.index)
+    export first=$((${#due} + 1))
+    holds 'the lines of a chunk before the next one' 0 '' ': >$made/come; { head -c 69632 samples/panel.evtx
+        for n in {1..100}; do [ "$(stat -c %s $made/come)" -lt $first ] || break; sleep 0.1; done
+        cp $made/come $made/came; tail -c +69633 samples/panel.evtx; } | "$@" >$made/come; cat $made/came $made/come' \
+        < <(echo "$due"; cat samples/panel.index)
+}
+
+# breaks_off COUNT WORD..: the words with standard input that has the first bytes of panel.evtx, and then an error in place of an end: a pipe
+# that is not closed, whose reads do not wait.
+breaks_off() {
+    python3 -c 'import fcntl, os, sys
+end, begin = os.pipe()
+fcntl.fcntl(begin, 1031, 1 << 18)  # F_SETPIPE_SZ
+with open("samples/panel.evtx", "rb") as log:
+    os.write(begin, log.read(int(sys.argv[1])))
+os.set_blocking(end, False)
+os.set_inheritable(begin, True)
+os.dup2(end, 0)
+os.execv(sys.argv[2], sys.argv[2:])' "$@"
+}
+
+# What was read is indexed.
+broken_inputs() {
+    local count again="$name: standard input: Resource temporarily unavailable"
+    export -f breaks_off
+    for count in 0 4095 4096; do
+        says "an input that breaks off after $count bytes" 1 "$again" "breaks_off $count \"\$@\""
+    done
+    holds 'an input that breaks off in a chunk' 1 "$again" 'breaks_off 80000 "$@"' < <(sed '/^index 1 /,$d' samples/panel.index; echo 'index 1 refused 1')
+    holds 'an input that breaks off after a chunk' 1 "$again" 'breaks_off 69632 "$@" -' < <(sed '/^index 1 /,$d' samples/panel.index)
+}
+
+# The two chunks of panel.evtx 301 times.
+long_index() {
+    awk '{ line[NR] = $0 } END { for (turn = 0; turn < 301; turn++) for (n = 1; n <= NR; n++) { $0 = line[n]; $(/^index/ ? 2 : 1) += 2 * turn; print } }' \
+        samples/panel.index
+}
+
+long_logs() {
+    holds 'a long log' 0 '' '"$@" $made/long.evtx' < <(long_index)
+    holds 'NUMBER and a long log' 0 '' '"$@" 298 $made/long.evtx' < <(for k in {1..601..2}; do echo "$k 3846 91 298 0"; done)
+}
+
+# What an index is for: the logs of a folder that have a record, its text by the listing, and its bytes.
+found_record() {
+    local text
+    text=$(grep -a '^3846 298 ' samples/panel.listing)
+    holds 'a record in a folder of logs' 0 "$name: ./powercut.evtx: index 2 refused 1" "cd samples && \"\$@\" 298 ./*.evtx | grep -a -B 1 '^[0-9]'" \
+        < <(printf '%s\n' ./panel.evtx: '1 3846 91 298 0' ./powercut.evtx: '1 3846 91 298 0')
+    export bin
+    holds 'the text of a record that was found' 0 '' 'read -r k offset size number rest < <("$@" 298 samples/panel.evtx)
+        "$bin/evtx_list" samples/panel.evtx | sed -n "/^chunk $k /,/^chunk $((k + 1)) /p" | grep -a "^$offset $number "' < <(echo "$text")
+    holds 'the bytes of a record that was found' 0 '' 'read -r k offset size rest < <("$@" 298 samples/panel.evtx)
+        tail -c +$((4096 + 65536 * k + offset + 1)) samples/panel.evtx | head -c "$size"' < <(tail -c +73479 samples/panel.evtx | head -c 91)
+}
+
+# called_as NAME LINES: panel.evtx by the program under another name, which decides what is done; the file is the same one.
 called_as() {
     head -n 1 "samples/panel.$2" >"$made/due_out"
     : >"$made/due_error"
     by "called as ${1:0:40}" 0 '(exec -a "$1" "$2" samples/panel.evtx) | head -n 1' "$1" "$bin/evtx_list"
 }
 
-called() {
+# called_by NAME LINES: the names by which the program writes these lines, and some that are not quite one of them.
+called_by() {
     local given path
-    for given in evtx_carve ./evtx_carve /evtx_carve /a/b/evtx_carve evtx_list/evtx_carve //evtx_carve $'a\nb/evtx_carve' ' /evtx_carve'; do
-        called_as "$given" carving
+    for given in "$1" "./$1" "/$1" "/a/b/$1" "evtx_list/$1" "evtx_carve/$1" "evtx_index/$1" "//$1" $'a\nb/'"$1" " /$1"; do
+        called_as "$given" "$2"
     done
-    for given in evtx_list '' / x my_evtx_carve _evtx_carve evtx_carve/ evtx_carves evtx_carve/x evtx-carve EVTX_CARVE 'evtx_carve ' carve; do
+    for given in "my_$1" "_$1" "$1/" "${1}s" "$1/x" "${1/_/-}" "${1^^}" "$1 " "${1#evtx_}" "${1#e}" "${1%?}"; do
         called_as "$given" listing
     done
     # As long as the memory for a name, and longer: that is no path of a file.
     path=$(printf '/%.0s' {1..4086})
-    called_as "${path}evtx_carve" carving
-    called_as "/${path}evtx_carve" listing
-    cp samples/panel.carving "$made/due_out"
-    ln "$bin/evtx_list" "$made/evtx_carve" && ln -s "$bin/evtx_list" "$made/bin/other_name" || stop "no second name"
-    by 'a hard link' 0 '"$made/evtx_carve" samples/panel.evtx'
-    by 'found by PATH' 0 'PATH="$1:$PATH" && evtx_carve samples/panel.evtx' "$bin"
-    by 'a copy' 0 '"$open/evtx_carve" samples/panel.evtx'
+    called_as "$path$1" "$2"
+    called_as "/$path$1" listing
+    cp "samples/panel.$2" "$made/due_out"
+    ln "$bin/evtx_list" "$made/$1" || stop "no second name"
+    by "a hard link, $1" 0 '"$made/$1" samples/panel.evtx' "$1"
+    by "found by PATH, $1" 0 'PATH="$2:$PATH" && "$1" samples/panel.evtx' "$1" "$bin"
+    by "a copy, $1" 0 '"$open/$1" samples/panel.evtx' "$1"
+}
+
+called() {
+    local given
+    called_by evtx_carve carving
+    called_by evtx_index index
+    for given in evtx_list '' / x evtx_carve/evtx_list evtx_index/evtx_list evtx_carveevtx_index evtx_index/evtx_carve_; do
+        called_as "$given" listing
+    done
     cp samples/panel.listing "$made/due_out"
+    ln -s "$bin/evtx_list" "$made/bin/other_name" || stop "no second name"
     by 'a link of another name' 0 '"$made/bin/other_name" samples/panel.evtx'
 }
 
 set_up
-for which in list carve; do
+make_logs || stop "no logs can be made"
+for which in list carve index; do
     run_as "$which"
     files
     standard_input
@@ -322,6 +571,14 @@ for which in list carve; do
     failing_error
     terminals
 done
+numbers_given
+numbers_and_files
+names_of_digits
+chunks_without_index
+chunk_by_chunk
+broken_inputs
+long_logs
+found_record
 run_as list
 largest_position
 called
