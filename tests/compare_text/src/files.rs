@@ -1,5 +1,5 @@
-//! Whole logs to list: with lines worked out by hand, the samples with the
-//! listings beside them, generated ones, and damaged ones.
+//! Whole logs to list and to index: with lines worked out by hand, the samples with
+//! the lines beside them, generated ones, and damaged ones.
 
 mod by_hand;
 pub mod generated;
@@ -10,8 +10,10 @@ pub struct File {
     pub name: String,
     pub seed: u64,
     pub bytes: Vec<u8>,
-    /// The lines by hand, or those that stand beside a sample.
+    /// The listing by hand, or that which stands beside a sample.
     pub expected: Option<Vec<u8>>,
+    /// The lines of its indexes, likewise.
+    pub indexes: Option<Vec<u8>>,
     pub input: Input,
 }
 
@@ -31,12 +33,17 @@ impl File {
             seed: 0,
             bytes,
             expected: None,
+            indexes: None,
             input: Input::Pieces(1 << 16),
         }
     }
 
     fn with(self, lines: impl Into<Vec<u8>>) -> File {
         File { expected: Some(lines.into()), ..self }
+    }
+
+    fn indexed(self, lines: impl Into<Vec<u8>>) -> File {
+        File { indexes: Some(lines.into()), ..self }
     }
 }
 
@@ -48,7 +55,8 @@ fn samples() -> Vec<File> {
         for input in pieces.into_iter().chain([Input::Sample(name)]) {
             let log = read_sample(&format!("{name}.evtx"));
             let lines = read_sample(&format!("{name}.listing"));
-            files.push(File { input, ..File::new(name, log).with(lines) });
+            let indexes = read_sample(&format!("{name}.index"));
+            files.push(File { input, ..File::new(name, log).with(lines).indexed(indexes) });
         }
     }
     files
@@ -66,6 +74,7 @@ pub fn for_each<E>(list: &mut dyn FnMut(&File) -> Result<(), E>) -> Result<(), (
 mod tests {
     use super::by_hand;
     use crate::hand;
+    use second_reader::indexing::indexing;
     use second_reader::listing::listing;
     use std::ops::RangeInclusive;
 
@@ -88,6 +97,14 @@ mod tests {
     fn the_second_reader_lists_as_expected() {
         for file in by_hand::all() {
             assert!(Some(listing(&file.bytes)) == file.expected, "{}", file.name);
+        }
+    }
+
+    #[test]
+    fn the_second_reader_indexes_as_expected() {
+        for file in by_hand::all() {
+            let lines = indexing(&file.bytes, None).lines.into_bytes();
+            assert!(Some(lines) == file.indexes, "{}", file.name);
         }
     }
 }

@@ -1,15 +1,19 @@
-//! Compares the texts and listings of the first reader with those of the second
-//! reader and with answers worked out by hand, and fails at the first difference.
+//! Compares the texts, listings and indexes of the first reader with those of the
+//! second reader and with answers worked out by hand, and fails at the first
+//! difference.
 //!
-//! `compare_text [--seed NUMBER] [--long] [PROGRAM]`: PROGRAM is the first
-//! reader's listing program; `--long` adds cases that take many seconds; with a
+//! `compare_text [--seed NUMBER] [--long] [PROGRAM]`: PROGRAM is the one file of the
+//! first reader's programs; `--long` adds cases that take many seconds; with a
 //! seed, only what is generated is compared, and follows from it.
 
+mod indexings;
 mod listings;
+mod program;
 mod trial;
 
 use compare::indexes::REFUSAL;
 use compare::texts::{CALL, LENGTH_CALL};
+use compare_text::files::{self, File};
 use compare_text::question::Question;
 use compare_text::{generated, hand};
 use std::path::Path;
@@ -19,13 +23,17 @@ use support::seed::take_seed;
 use support::tally::Tally;
 
 /// What each call or kind of line must have answered in the end.
-const EXPECTED: [(&str, &[u32]); 6] = [
+const EXPECTED: [(&str, &[u32]); 10] = [
     (CALL, &[0, 1, 7, 8, 9, 10, 11, 12, 13]),
     (LENGTH_CALL, &[0, 1, 7, 8, 9, 10, 11, 12]),
     (REFUSAL, &[0, 8, 9, 10, 11, 12, 13]),
     (listings::HEADER_LINE, &[0, 1, 2, 3, 4, 5]),
     (listings::CHUNK_LINE, &[0, 2, 4, 5, 6]),
     (listings::RECORD_LINE, &[0, 8, 9, 10, 11, 12, 13]),
+    (indexings::INDEX_LINE, &[0, 1, 15]),
+    (indexings::ENTRY_LINE, &[0, 8, 9, 10, 11, 12, 13]),
+    (indexings::FOUND_LINE, &[0, 8, 13]),
+    (indexings::TOLD_LINE, &[1, 15]),
 ];
 
 /// Prints what differs, and leaves the input in the build folder.
@@ -62,8 +70,17 @@ fn texts(seed: u64, tally: &mut Tally) -> bool {
     }
 }
 
-fn listings(program: &Path, seed: Option<u64>, tally: &mut Tally) -> bool {
-    match listings::compare_all(program, seed, tally) {
+/// Runs the programs on whole logs. Answers whether their lines are those due.
+fn programs(program: &Path, seed: Option<u64>, tally: &mut Tally) -> bool {
+    let compare = &mut |file: &File| {
+        listings::compare(program, file, tally)?;
+        indexings::compare(program, file, tally)
+    };
+    let outcome = match seed {
+        Some(seed) => files::generated::for_each(seed, compare),
+        None => files::for_each(compare),
+    };
+    match outcome {
         Ok(()) => true,
         Err((file, difference)) => {
             let (kind, bytes) = (file.name.as_str(), file.bytes.as_slice());
@@ -91,7 +108,7 @@ fn compare(program: &Path, seed: Option<u64>, long: bool) -> bool {
     let mut tally = Tally::default();
     let agree = (seed.is_some() || texts_by_hand(long, &mut tally))
         && texts(seed.unwrap_or(generated::SEED), &mut tally)
-        && listings(program, seed, &mut tally);
+        && programs(program, seed, &mut tally);
     if !agree {
         return false;
     }
