@@ -3,4 +3,3 @@ pub mod Split
 pub mod Widths
 pub mod Comparing
 pub mod Numbers
-pub mod Next

@@ -1,10 +1,9 @@
-// Little-endian numbers from a slice, comparison with known bytes, and where a byte stands next. A byte that the slice does not have reads as 0, as
-// the definition of `numberAt` has it, so that every function here answers for every offset.
+// Little-endian numbers from a slice, and comparison with known bytes. A byte that the slice does not have reads as 0, as the definition of
+// `numberAt` has it, so that every function here answers for every offset.
 ghost use mathlib.Core.Path.{_≡_};
 ghost use Prim.Native.Nat.{_+_, _≤_, _<_, min};
 ghost use lib.ListN.{length, getD};
 ghost use Rattle.rules.specs.Bytes.{part, numberAt, same};
-ghost use Rattle.octets.specs.Next.{nextOf, Passed};
 
 // The byte at i.
 pub fn octet(s: &[u8], i: usize) -> u64
@@ -133,57 +132,4 @@ pub fn same_at(s: &[u8], i: usize, known: &[u8]) -> bool
         k += 1;
     }
     true
-}
-
-// Passes bytes from i on, eight in a turn, as long as none of the eight is x.
-fn pass_eights(s: &[u8], i: usize, x: u8) -> usize
-    requires { ⌜ i ≤ length (now s) ⌝ }
-    ensures { λ r. ⌜ Passed x (now (s .entry)) i r ⌝ }
-{
-    let mut k = i;
-    while 8 <= s.len() - k {
-        if s[k] == x {
-            return k;
-        }
-        if s[k + 1] == x {
-            return k;
-        }
-        if s[k + 2] == x {
-            return k;
-        }
-        if s[k + 3] == x {
-            return k;
-        }
-        if s[k + 4] == x {
-            return k;
-        }
-        if s[k + 5] == x {
-            return k;
-        }
-        if s[k + 6] == x {
-            return k;
-        }
-        if s[k + 7] == x {
-            return k;
-        }
-        k += 8;
-    }
-    k
-}
-
-// The first offset from i on at which x stands, or the length where there is none; i itself beyond the end.
-pub fn next_of(s: &[u8], i: usize, x: u8) -> usize
-    ensures { λ r. ⌜ r ≡ nextOf x (now (s .entry)) i ⌝ }
-{
-    if s.len() <= i {
-        return i;
-    }
-    let mut k = pass_eights(s, i, x);
-    while k < s.len() {
-        if s[k] == x {
-            return k;
-        }
-        k += 1;
-    }
-    k
 }
