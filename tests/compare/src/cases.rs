@@ -43,7 +43,7 @@ pub struct Input {
 /// Makes inputs from random numbers and the number of the round.
 type Make = fn(&mut Random, usize) -> Vec<Input>;
 
-const KINDS: [Kind<Make>; 29] = [
+const KINDS: [Kind<Make>; 30] = [
     Kind { name: "sample files", rounds: 3, make: files::sample },
     Kind { name: "damaged sample files", rounds: 12, make: files::damaged_sample },
     Kind { name: "sound files", rounds: 40, make: files::sound },
@@ -73,6 +73,7 @@ const KINDS: [Kind<Make>; 29] = [
     Kind { name: "loose bytes of several chunks", rounds: 20, make: loose::long_bytes },
     Kind { name: "loose bytes around the limit", rounds: 6, make: loose::at_the_limit },
     Kind { name: "record numbers around 2^48", rounds: 80, make: chunks::bound_numbers },
+    Kind { name: "a record or a 2a in zeros", rounds: 101, make: loose::in_zeros },
 ];
 
 /// Hands every case to `use_case` until one differs. Answers how many there were.

@@ -32,7 +32,7 @@ pub struct Differing {
 /// Makes an input from random numbers and the number of the round.
 type Make = fn(&mut Random, usize) -> Input;
 
-const KINDS: [Kind<Make>; 15] = [
+const KINDS: [Kind<Make>; 16] = [
     Kind { name: "short streams", rounds: 120, make: streams::short },
     Kind { name: "beginnings inside records", rounds: 60, make: streams::inside },
     Kind { name: "first sizes of a stream", rounds: 16, make: streams::first_sizes },
@@ -43,6 +43,7 @@ const KINDS: [Kind<Make>; 15] = [
     Kind { name: "records that one byte settles", rounds: 4, make: streams::crowded },
     Kind { name: "streams of smallest records", rounds: 2, make: streams::smallest_records },
     Kind { name: "streams without records", rounds: 2, make: streams::blank },
+    Kind { name: "a record in blank packets", rounds: 80, make: streams::nearly_blank },
     Kind { name: "streams beyond 16,777,216 bytes", rounds: 1, make: streams::long },
     Kind { name: "sample files as streams", rounds: 6, make: streams::sample },
     Kind { name: "streams of several chunks", rounds: 6, make: streams::chunks },

@@ -64,3 +64,29 @@ pub fn at_the_limit(random: &mut Random, round: usize) -> Vec<Input> {
     frame(&mut bytes, LIMIT - 28, 28);
     one(bytes)
 }
+
+/// Zeros in which a record, a single 2a, or a magic without a record stands at one of
+/// the first or of the last offsets, and as many zeros as the round says. The search
+/// looks at 32 offsets in a turn and at the last 35 bytes apart: each place in a turn is
+/// among these, the last byte, and a magic in two turns or cut short by the end.
+pub fn in_zeros(_: &mut Random, round: usize) -> Vec<Input> {
+    const LENGTH: usize = 200;
+    let laid = |lay: &dyn Fn(&mut [u8])| {
+        let mut bytes = vec![0; LENGTH];
+        lay(&mut bytes);
+        one(bytes)
+    };
+    let inputs = [
+        laid(&|bytes| frame(bytes, round, 28)),
+        laid(&|bytes| frame(bytes, LENGTH - 28 - round, 28)),
+        laid(&|bytes| bytes[round] = 0x2a),
+        laid(&|bytes| bytes[LENGTH - 1 - round] = 0x2a),
+        laid(&|bytes| {
+            put(bytes, round, &[0x2a; 2]);
+            frame(bytes, round + 30, 28);
+        }),
+        laid(&|bytes| put(bytes, LENGTH - 2 - round, &[0x2a; 2])),
+        one(vec![0; round]),
+    ];
+    inputs.into_iter().flatten().collect()
+}

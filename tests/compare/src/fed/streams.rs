@@ -140,6 +140,15 @@ pub fn blank(random: &mut Random, round: usize) -> Input {
     usually_cut(random, bytes)
 }
 
+/// A record and a beginning of one in zeros, so that whether a packet is blank hangs on
+/// where it is cut.
+pub fn nearly_blank(random: &mut Random, round: usize) -> Input {
+    let mut bytes = vec![0; 200];
+    frame(&mut bytes, round, 28);
+    put(&mut bytes, 199 - round, &MAGIC[..1 + round.min(2)]);
+    usually_cut(random, bytes)
+}
+
 /// More than the 16,777,216 bytes that are searched at once, with records before,
 /// around and behind that length.
 pub fn long(random: &mut Random, _: usize) -> Input {
