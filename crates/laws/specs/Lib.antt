@@ -10,6 +10,7 @@ pub mod Calendar
 pub mod Times
 pub mod Tables
 pub mod Octets
+pub mod Joined
 pub mod Packed
 pub mod Refusals
 pub mod Indexed
@@ -19,3 +20,4 @@ pub mod Found
 pub mod Grows
 pub mod Walks
 pub mod Packets
+pub mod Repair

@@ -20,6 +20,8 @@ pub mod Index
 pub mod Listing
 pub mod Carving
 pub mod Indexing
+pub mod Evt
 pub mod Opened
 pub mod Samples
 pub mod EasyErrors
+pub mod EvtErrors

@@ -20,6 +20,8 @@ use Rattle.rules.specs.Index.{entryBytes, build, rows, entries, isIndex,
 use Rattle.rules.specs.Listing.{recordLine, recordLines, chunkLines, restLine, chunksLines, listing}
 use Rattle.rules.specs.Carving.{carvedLines}
 use Rattle.rules.specs.Indexing.{entryLines, chunksIndexed, indexing}
+use Rattle.rules.specs.Evt.{isEvt, isTrailer, trailersFrom, trailers, repaired, header, evtHeader, framed, closed, strings, stringsIn, stringsAt}
+use Rattle.rules.specs.Evt.{stringTexts, evtRecordText, evtText, evtFields}
 
 unfoldable pub opened : Unit {0}
 unfolding crcBit crcBits crcByte crcOver crc32 fileHeaderTests checkFileHeader chunkTests checkChunk whole searchFrom lowestFrom searchChunk searchBytes
@@ -30,4 +32,5 @@ unfolding crcBit crcBits crcByte crcOver crc32 fileHeaderTests checkFileHeader c
     items content elementBody elementOver preamble descriptor valuesOf values layout definition instance fragmentBody fragment binXml element reading read
     textOf touched recordLine recordLines chunkLines restLine chunksLines listing canGrow walk left streamOf streamCall feed close carvedLines
     joined fields packed unpacked entryBytes build rows entries isIndex entryAt find add entryLines chunksIndexed indexing
+    isEvt isTrailer trailersFrom trailers repaired header evtHeader framed closed strings stringsIn stringsAt stringTexts evtRecordText evtText evtFields
 opened = tt
