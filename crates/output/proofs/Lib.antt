@@ -1,3 +1,4 @@
 -- The laws that the proofs of this crate, and of the crates above it, go by.
 pub mod Output
 pub mod Loops
+pub mod Answered
