@@ -2,8 +2,9 @@
 use mathlib.Core.Path.{_≡_}
 use mathlib.Core.List.{List, [], _∷_}
 use mathlib.Core.Option.{Option, none, some}
-use Prim.Native.Nat.{ℕ, _+_, _-_, _≤_}
+use Prim.Native.Nat.{ℕ, _+_, _*_, _-_, _≤_, _<_}
 use lib.Dec.{eqb}
+use lib.ListN.{getD}
 use Rattle.rules.specs.Bytes.{if_then_else_}
 use Rattle.rules.specs.Strings.{isHigh, isLow, ofPair}
 
@@ -34,3 +35,7 @@ pub record Carried (u k : ℕ) : Type 0 where
   pub most : k ≤ 1024
   pub is : carryOf k ≡ carried u
   pub itself : unlessHigh u ≡ (if eqb k 0 then u ∷ [] else [])
+
+-- u is the unit in the two bytes at i
+abbrev pub IsUnit : List ℕ → ℕ → ℕ → Type 0
+IsUnit b i u = (u ≡ getD b i 0 + 256 * getD b (i + 1) 0) × (u < 65_536)

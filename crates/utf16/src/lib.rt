@@ -1,14 +1,18 @@
 // Strings: UTF-16 to UTF-8, with the characters of XML escaped. A step for one unit, with a high surrogate carried over to the
-// next, and a loop over it.
+// next, and a loop over it; the same for a string that lies in two slices (`across`).
 ghost use mathlib.Core.Path.{_≡_};
 ghost use mathlib.Core.List.{_++_};
-ghost use Prim.Native.Nat.{_+_, _*_, _≤_, _<_};
-ghost use lib.ListN.{length, getD};
+ghost use Prim.Native.Nat.{_+_, _≤_, _<_};
+ghost use lib.ListN.{length};
 ghost use Rattle.output.specs.Output.{Wrote};
 ghost use Rattle.rules.specs.Names.{units};
 ghost use Rattle.rules.specs.Strings.{allShown, stringText};
-ghost use Rattle.utf16.specs.Carry.{unlessHigh, completed, leftOver, carryOf, Carried};
+ghost use Rattle.utf16.specs.Carry.{unlessHigh, completed, leftOver, carryOf, Carried, IsUnit};
 ghost use Rattle.utf16.specs.Shown.{PlainlyIf, plainTable};
+
+mod across;
+
+pub use across::put_across;
 
 // A unit of ASCII as its one byte.
 fn one_byte(u: u32) -> u8
@@ -20,7 +24,7 @@ fn one_byte(u: u32) -> u8
 
 fn unit(src: &[u8], i: usize) -> u32
     requires { ⌜ i + 1 < length (now src) ⌝ }
-    ensures { λ r. ⌜ (r ≡ getD (now (src .entry)) i 0 + 256 * getD (now (src .entry)) (i + 1) 0) × (r < 65536) ⌝ }
+    ensures { λ r. ⌜ IsUnit (now (src .entry)) i r ⌝ }
 {
     (octets::wide(src[i]) + 256 * octets::wide(src[i + 1])) as u32
 }
