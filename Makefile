@@ -2,17 +2,20 @@
 SHELL = bash
 .SHELLFLAGS = -o pipefail -c
 LOG ?= samples/panel.evtx
+EVT ?= samples/oldpanel.evt
 NUMBER ?=
 MINUTES ?=
 SEED ?=
 PREFIX ?= /usr/local
 DESTDIR ?=
-VERSION = 0.5.0
+VERSION = 0.6.0
 
 program = target/bin/evtx_list
 # The same program: it carves where it is called by the first of these names, and indexes where it is called by the second.
 carver = target/bin/evtx_carve
 indexer = target/bin/evtx_index
+# In C, over the library.
+evt_program = target/bin/evt_list
 archive = target/staticlib/libevtx_c.a
 sources := crates.txt $(shell find crates -name '*.rt' -o -name '*.antt')
 root = $(DESTDIR)$(PREFIX)
@@ -28,6 +31,7 @@ installed = \
 	bin/evtx_list:755:$(program) \
 	bin/evtx_carve:link:evtx_list \
 	bin/evtx_index:link:evtx_list \
+	bin/evt_list:755:$(evt_program) \
 	include/evtx.h:644:include/evtx.h \
 	lib/libevtx_c.a:644:$(archive) \
 	lib/libevtx_c.so.$(VERSION):644:$(shared) \
@@ -38,12 +42,14 @@ installed = \
 	share/man/man1/evtx_list.1:644:packaging/evtx_list.1 \
 	share/man/man1/evtx_carve.1:644:packaging/evtx_carve.1 \
 	share/man/man1/evtx_index.1:644:packaging/evtx_index.1 \
+	share/man/man1/evt_list.1:644:packaging/evt_list.1 \
 	$(completions)/evtx:644:packaging/evtx.bash \
 	$(completions)/evtx_list:link:evtx \
 	$(completions)/evtx_carve:link:evtx \
-	$(completions)/evtx_index:link:evtx
+	$(completions)/evtx_index:link:evtx \
+	$(completions)/evt_list:link:evtx
 
-.PHONY: help test list carve index install uninstall clean compare examples bench soak fuzz
+.PHONY: help test list carve index evt install uninstall clean compare examples bench soak fuzz
 .NOTPARALLEL:
 
 help: ## says what each target does
@@ -61,8 +67,12 @@ carve: $(carver) ## lists the whole records in the bytes of samples/panel.evtx, 
 index: $(indexer) ## writes the index of each chunk of samples/panel.evtx, or of the log named by LOG=path; with NUMBER=n only records with that number
 	@$(indexer) $(NUMBER) "$(LOG)"
 
-compare: $(program) ## compares our listing of LOG=path with the second reader's, and with those of public readers if installed
-	@bash tests/compare_log.sh $(program) "$(LOG)"
+evt: $(evt_program) ## lists samples/oldpanel.evt, or the EVT log named by EVT=path
+	@$(evt_program) "$(EVT)"
+
+# Where EVT is given, no other program is needed.
+compare: $(if $(filter file,$(origin EVT)),$(program),$(evt_program)) ## compares our listing of LOG=path, or of EVT=path, with the second reader's, and with those of public readers if installed
+	@$(if $(filter file,$(origin EVT)),bash tests/compare_log.sh $(program) "$(LOG)",bash tests/compare_evt_log.sh $(evt_program) "$(EVT)")
 
 examples: $(program) $(archive) ## builds the examples in C, Rust and Python and compares what they write with what is due
 	@bash tests/examples.sh
@@ -76,7 +86,7 @@ soak: $(program) $(archive) ## compares both readers for MINUTES=n, each time wi
 fuzz: $(archive) ## compares both readers for MINUTES=n (1) on inputs guided by the code that they reach (docs/ENDURANCE.md)
 	@bash tests/fuzz.sh $(or $(MINUTES),1)
 
-install: $(program) $(archive) $(shared) ## installs programs, libraries, header, man pages and completion under PREFIX (/usr/local), in DESTDIR if given
+install: $(program) $(evt_program) $(archive) $(shared) ## installs programs, libraries, header, man pages and completion under PREFIX (/usr/local), in DESTDIR if given
 	@sed -e 's|@PREFIX@|$(PREFIX)|' -e 's|@VERSION@|$(VERSION)|' packaging/evtx.pc.in >target/evtx.pc
 	@bash packaging/install.sh install "$(root)" $(installed)
 
@@ -103,6 +113,10 @@ $(carver) $(indexer): $(program)
 
 $(archive): $(sources)
 	$(call prove,bash packaging/archive.sh,target/archive.log)
+
+$(evt_program): programs/evt_list.c include/evtx.h $(archive)
+	@mkdir -p target/bin
+	@gcc -std=c11 -O2 -Wall -Wextra -o $@ programs/evt_list.c $(archive)
 
 # -z text: the linker refuses code that is not position independent.
 $(shared): $(archive) packaging/libevtx_c.map

@@ -1,9 +1,10 @@
 /* EVTX reader: the calls that read headers, chunks and records of Windows XML event logs, search what comes in packets, write the text of a
- * record, and keep an index of a chunk.
+ * record, and keep an index of a chunk; and those that read the older EVT logs.
  *
  * Numbers. Every answer begins with one of these:
  *    0  done
- *    1  file header not 4,096 bytes; chunk or store not 65,536; bytes to search over 16,777,216; packet over 65,536; stream over 2^40
+ *    1  file header not 4,096 bytes; chunk or store not 65,536; bytes to search over 16,777,216; packet over 65,536; stream over 2^40; EVT log
+ *       under 48 bytes or over 16,777,216
  *    2  magic wrong
  *    3  version not 3.1
  *    4  a fixed header field wrong
@@ -19,6 +20,8 @@
  *   14  a call after the closing one
  *   15  a record number of 2^48 or more, which an entry of an index has no room for
  *   16  no index: its length is no multiple of 11, or bits that have to be zero are not
+ *   17  a dirty EVT log without exactly one trailer
+ *   18  an offset of an EVT log below 48, or at no record
  * A refused call answers its number and zeros, and leaves all memory as it was. enum evtx_number has a name for each number, and
  * evtx_message a sentence.
  *
@@ -44,6 +47,13 @@
  * evtx_record_text refuses its text with where there is room for 65,536 bytes (0 if it does not) in 4, and 4 zero bits. The caller keeps the
  * index. Any bytes whose length is a multiple of 11 and whose zero bits are zero are read as one, whatever chunk they came from, or none.
  *
+ * EVT logs. A log is lent whole: 48 bytes of header, and behind them records of which one may go on at byte 48 after the file's last byte.
+ * Where the header's dirty flag (bit 0 of byte 36) is set, its offsets are out of date and the log's one trailer has the true ones.
+ * evtx_evt_header hands back the header as it would stand then. The other two calls look for the trailer too, which passes over the whole log:
+ * whoever asks more than once writes the header that was handed back over the front of the log first. The answers stay the same, and each then
+ * costs its record only. To walk a log, begin at the offset in bytes 16 to 19 of that header, go on at `next`, and end at the offset in bytes 20
+ * to 23; behind the last record before the file's end there may be fill bytes, which are no record, and the next one then stands at 48.
+ *
  * The rules in full, with every test in its order, every limit and the text of every type of value, are in docs/RULES.md of the sources. */
 #ifndef EVTX_H
 #define EVTX_H
@@ -51,9 +61,9 @@
 #include <stddef.h>
 #include <stdint.h>
 
-#define EVTX_VERSION "0.5.0"
+#define EVTX_VERSION "0.6.0"
 #define EVTX_VERSION_MAJOR 0
-#define EVTX_VERSION_MINOR 5
+#define EVTX_VERSION_MINOR 6
 #define EVTX_VERSION_PATCH 0
 
 /* How many bytes a file header has, and a chunk. */
@@ -78,6 +88,10 @@
 /* How many bytes an entry of an index has, and the index of a chunk at most: EVTX_MOST_RECORDS_OF_CHUNK entries. */
 #define EVTX_ENTRY_SIZE 11
 #define EVTX_MOST_BYTES_OF_INDEX 25542
+
+/* How many bytes the header of an EVT log has, and at most the log. */
+#define EVTX_EVT_HEADER_SIZE 48
+#define EVTX_MOST_EVT 16777216
 
 /* With it the compiler warns where a pointer is a null that it can see. */
 #if defined(__GNUC__)
@@ -107,7 +121,9 @@ enum evtx_number {
     EVTX_ROOM_TOO_SMALL = 13,
     EVTX_AFTER_CLOSING = 14,
     EVTX_NUMBER_TOO_LARGE = 15,
-    EVTX_NOT_AN_INDEX = 16
+    EVTX_NOT_AN_INDEX = 16,
+    EVTX_NO_TRAILER = 17,
+    EVTX_NO_EVT_RECORD = 18
 };
 
 /* length is a count of what the call says; 0 in a refusal */
@@ -149,6 +165,16 @@ typedef struct {
     uint64_t record_number;
     uint32_t refusal;
 } evtx_entry;
+
+/* What a record of an EVT log shows of itself: its length in bytes, its number, its written time in seconds from 1970, and where it ends, with
+ * byte 48 behind the last byte of the log */
+typedef struct {
+    uint32_t number;
+    uint64_t length;
+    uint64_t record_number;
+    uint64_t written_time;
+    uint64_t next;
+} evtx_evt_seen;
 
 /* Checks a file header. Answers 0, or 1 to 5 for the first test that fails: length, magic, version, fixed fields, checksum.
  * length is 0. */
@@ -244,12 +270,26 @@ evtx_entry evtx_index_find(const uint8_t *index, size_t index_len, uint64_t reco
 evtx_answer evtx_index_add(const uint8_t *chunk, size_t chunk_len, const uint8_t *index, size_t index_len, uint8_t *out,
                            size_t room) EVTX_NONNULL;
 
+/* The header of an EVT log: where the dirty flag is set, with the trailer's four numbers at 16 to 31, the flag cleared, and the rest as read;
+ * else as read. EVTX_EVT_HEADER_SIZE (48) bytes of room are enough. Answers 0 with 48: the header stands at the front of `out`, and the rest of
+ * `out` is as it was. Answers 1 for the log's length; then 2 if it has no EVT header; then 17; then 13. A refused call leaves `out` as it was. */
+evtx_answer evtx_evt_header(const uint8_t *file, size_t file_len, uint8_t *out, size_t room) EVTX_NONNULL;
+
+/* The text of the record at `offset` of an EVT log: number, written time, event id, type, category and strings, joined by single spaces. Answers
+ * 0 with the length: the text stands at the front of `out`, and the rest of `out` is as it was. Answers 1, 2 or 17 as evtx_evt_header does; then
+ * 18; then 13 exactly if the text is longer than `room`. A refused call leaves `out` as it was. */
+evtx_text evtx_evt_text(const uint8_t *file, size_t file_len, uint64_t offset, uint8_t *out, size_t room) EVTX_NONNULL;
+
+/* What the record at `offset` of an EVT log shows of itself. Answers 0 with it; or 1, 2, 17 or 18 as evtx_evt_text does. */
+evtx_evt_seen evtx_evt_record(const uint8_t *file, size_t file_len, uint64_t offset) EVTX_NONNULL;
+
 /* What a number means, for people to read. It answers for any number. */
 static inline const char *evtx_message(uint32_t number)
 {
     static const char *const messages[] = {
         "done",
-        "file header not 4,096 bytes, chunk or store not 65,536, bytes to search over 16,777,216, packet over 65,536, or stream over 2^40",
+        ("file header not 4,096 bytes, chunk or store not 65,536, bytes to search over 16,777,216, packet over 65,536, stream over 2^40, or "
+         "EVT log under 48 bytes or over 16,777,216"),
         "magic wrong",
         "version not 3.1",
         "a fixed header field wrong",
@@ -265,6 +305,8 @@ static inline const char *evtx_message(uint32_t number)
         "a call after the closing one",
         "record number of 2^48 or more, too large for an index",
         "no index: length no multiple of 11, or zero bits not zero",
+        "a dirty EVT log without exactly one trailer",
+        "no record of an EVT log at the offset asked for",
     };
     return number < sizeof messages / sizeof *messages ? messages[number] : "no number of this library";
 }
@@ -291,6 +333,8 @@ EVTX_HOLDS(sizeof(evtx_text) == 16 && offsetof(evtx_text, number) == 0 && offset
 EVTX_HOLDS(sizeof(evtx_entry) == 56 && offsetof(evtx_entry, number) == 0 && offsetof(evtx_entry, position) == 8);
 EVTX_HOLDS(offsetof(evtx_entry, chunk_number) == 16 && offsetof(evtx_entry, offset) == 24 && offsetof(evtx_entry, size) == 32);
 EVTX_HOLDS(offsetof(evtx_entry, record_number) == 40 && offsetof(evtx_entry, refusal) == 48);
+EVTX_HOLDS(sizeof(evtx_evt_seen) == 40 && offsetof(evtx_evt_seen, number) == 0 && offsetof(evtx_evt_seen, length) == 8);
+EVTX_HOLDS(offsetof(evtx_evt_seen, record_number) == 16 && offsetof(evtx_evt_seen, written_time) == 24 && offsetof(evtx_evt_seen, next) == 32);
 #undef EVTX_HOLDS
 #endif
 #undef EVTX_NONNULL

@@ -1,4 +1,4 @@
-# Completion for bash, of evtx, evtx_list, evtx_carve and evtx_index. It is installed under the name of each, by which bash-completion finds it.
+# Completion for bash, of evtx, evtx_list, evtx_carve, evtx_index and evt_list. It is installed under the name of each, by which bash-completion finds it.
 
 # An option, or a file. A record number is for the user to type.
 _evtx_files() {
@@ -22,4 +22,4 @@ _evtx() {
 }
 
 complete -F _evtx evtx
-complete -F _evtx_files evtx_list evtx_carve evtx_index
+complete -F _evtx_files evtx_list evtx_carve evtx_index evt_list

@@ -8,12 +8,7 @@ ghost use Rattle.rules.specs.Index.{old, build, add};
 ghost use Rattle.binxml.specs.Text.{wholeText};
 ghost use Rattle.evtx.specs.Texts.{Counted};
 use records_c::EvtxAnswer;
-
-#[repr(C)]
-pub struct EvtxText {
-    pub number: u32,
-    pub length: u64,
-}
+use records_c::EvtxText;
 
 // The answer about a text.
 fn told(text: evtx::TextAnswer) -> EvtxText

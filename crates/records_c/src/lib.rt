@@ -12,6 +12,12 @@ pub struct EvtxAnswer {
 }
 
 #[repr(C)]
+pub struct EvtxText {
+    pub number: u32,
+    pub length: u64,
+}
+
+#[repr(C)]
 pub struct EvtxFound {
     pub number: u32,
     pub offset: u64,
