@@ -10,6 +10,7 @@ cd "$(dirname "$0")/.." || exit 1
 made=target/examples
 installed=$PWD/$made/installed
 rust=$made/rust/release/evtx_safe
+in_c='list carve arrive text index evt'
 checks=0
 failed=0
 export LD_LIBRARY_PATH=$installed/lib
@@ -62,7 +63,7 @@ build_c() {
     shared=$(pkg-config --cflags --libs evtx) || stop "pkg-config has no evtx"
     static=$(pkg-config --static --cflags --libs evtx) || stop "pkg-config has no static evtx"
     mkdir -p "$made/shared" "$made/static" || stop "$made cannot be made"
-    for name in list carve arrive text index; do
+    for name in $in_c; do
         $c -o "$made/shared/$name" "examples/c/$name.c" $shared || stop "$name.c is not built over the shared library"
         $c -static -o "$made/static/$name" "examples/c/$name.c" $static || stop "$name.c is not built over the archive"
     done
@@ -79,7 +80,7 @@ build() {
 # Which library a program is linked with: the shared one has to be named in it by its soname, and the archive not at all.
 linked() {
     local name
-    for name in list carve arrive text index; do
+    for name in $in_c; do
         echo 1 >"$made/due"
         check "$name is linked with the shared library" "$made/due" sh -c 'readelf -d "$0" | grep -cF "[libevtx_c.so.0]"' "$made/shared/$name"
         echo 0 >"$made/due"
@@ -378,6 +379,92 @@ refused_indexes() {
     rm -f "$log"
 }
 
+# evt_header FIRST CURSOR FLAGS: the header of an EVT log, with these bytes of offsets and flags, as printf has them.
+evt_header() {
+    printf '\x30\0\0\0LfLe\x01\0\0\0\x01\0\0\0%b%b\x03\0\0\0\x01\0\0\0\0\0\0\0%b\0\0\0\0\x30\0\0\0' "$1\0\0" "$2\0\0" "$3\0\0\0"
+}
+
+# An EVT record of 60 bytes: number 2, written at 9, event id 7, type 4, no strings, category 1.
+evt_record() {
+    printf '\x3c\0\0\0LfLe\x02\0\0\0\0\0\0\0\x09\0\0\0\x07\0\0\0\x04\0\0\0\x01\0' && zeros 26 && printf '\x3c\0\0\0'
+}
+
+# evt_strings LENGTH COUNT: the front of an EVT record with so many bytes and strings, with number 1 and else the same; its strings are from 56 on.
+evt_strings() {
+    printf '%b\0\0LfLe\x01\0\0\0\0\0\0\0\x09\0\0\0\x07\0\0\0\x04\0%b\0\x01\0' "$1" "$2" && zeros 6 && printf '\x38\0\0\0' && zeros 16
+}
+
+# One of 68 bytes, with the strings a< and none.
+evt_string_record() {
+    evt_strings '\x44\0' '\x02' && printf 'a\0<\0\0\0\0\0\x44\0\0\0'
+}
+
+# evt_trailer FIRST CURSOR
+evt_trailer() {
+    printf '\x28\0\0\0\x11\x11\x11\x11\x22\x22\x22\x22\x33\x33\x33\x33\x44\x44\x44\x44%b%b\x03\0\0\0\x01\0\0\0\x28\0\0\0' "$1\0\0" "$2\0\0"
+}
+
+# evt_everywhere NAME LOG DUE
+evt_everywhere() {
+    check "EVT, $1" "$3" "$made/shared/evt" "$2"
+    check "EVT over the archive, $1" "$3" "$made/static/evt" "$2"
+}
+
+# The sample is dirty, and a record of it goes on behind its end.
+evt_logs() {
+    local log=$made/hand.evt due=$made/due
+    evt_everywhere "the sample" samples/oldpanel.evt samples/oldpanel.listing
+    printf '%s\n' '1 9 7 4 1 a&lt; ' '2 9 7 4 1' >"$due"
+    { evt_header '\x30\0' '\xb0\0' '\0' && evt_string_record && evt_record && evt_trailer '\x30\0' '\xb0\0'; } >"$log"
+    evt_everywhere "a clean log" "$log" "$due"
+    { evt_header '\x07\0' '\x07\0' '\x01' && evt_string_record && evt_record && evt_trailer '\x30\0' '\xb0\0'; } >"$made/dirty.evt"
+    evt_everywhere "a dirty log" "$made/dirty.evt" "$due"
+    printf '%s\n' '2 9 7 4 1' '1 9 7 4 1 a&lt; ' >"$due"
+    { evt_header '\x9c\0' '\x74\0' '\0' && evt_string_record && evt_trailer '\x9c\0' '\x74\0' && evt_record &&
+        printf '\x27\0\0\0%.0s' 1 2 3; } >"$made/fill.evt"
+    evt_everywhere "fill words" "$made/fill.evt" "$due"
+    { printf '1 9 7 4 1 ' && printf '&amp;%.0s' $(seq 20000) && echo; } >"$due"
+    { evt_header '\x30\0' '\xae\x9c' '\0' && evt_strings '\x7e\x9c' '\x01' && printf '&\0%.0s' $(seq 20000) &&
+        printf '\0\0\x7e\x9c\0\0' && evt_trailer '\x30\0' '\xae\x9c'; } >"$made/longtext.evt"
+    evt_everywhere "a long text" "$made/longtext.evt" "$due"
+    : >"$due"
+    { evt_header '\x30\0' '\x30\0' '\0' && evt_trailer '\x30\0' '\x30\0'; } >"$made/empty.evt"
+    evt_everywhere "no records" "$made/empty.evt" "$due"
+}
+
+# evt_ends NAME REASON LINES..: what is printed of the log ends.evt before it is refused. A run that does not end is stopped, also by what it writes.
+evt_ends() {
+    local name=$1 reason=$2
+    shift 2
+    printf '%s\n' "$@" 1 "evt: $made/ends.evt: $reason" >"$made/due"
+    check "EVT, $name" "$made/due" sh -c 'ulimit -f 1000; timeout 20 "$0" "$1" 2>"$2"; echo $?; cat "$2"' \
+        "$made/shared/evt" "$made/ends.evt" "$made/evt_errors"
+}
+
+evt_refusals() {
+    local log=$made/ends.evt none='no record of an EVT log at the offset asked for' evt=$made/shared/evt length
+    length='file header not 4,096 bytes, chunk or store not 65,536, bytes to search over 16,777,216, packet over 65,536, stream over 2^40, or '
+    length+='EVT log under 48 bytes or over 16,777,216'
+    { evt_header '\x30\0' '\x31\0' '\0' && evt_string_record && evt_record; } >"$log"
+    evt_ends "records without an end" 'the records come again' '1 9 7 4 1 a&lt; ' '2 9 7 4 1'
+    { evt_header '\x74\0' '\x31\0' '\0' && evt_string_record && evt_record && printf '\x27\0\0\0'; } >"$log"
+    evt_ends "fill words without an end" 'the records come again' '2 9 7 4 1' '1 9 7 4 1 a&lt; '
+    { evt_header '\x30\0' '\xb1\0' '\0' && evt_string_record && evt_record && zeros 60; } >"$log"
+    evt_ends "a cursor behind the records" "$none" '1 9 7 4 1 a&lt; ' '2 9 7 4 1'
+    { evt_header '\x30\0' '\xb0\0' '\x01' && evt_string_record && evt_record; } >"$log"
+    told "EVT, no trailer" 1 "evt: $log: a dirty EVT log without exactly one trailer" "$evt" "$log"
+    { evt_header '\x30\0' '\x31\0' '\0' && printf '\x27\0\0\0'; } >"$log"
+    told "EVT, fill words alone" 1 "evt: $log: $none" timeout 20 "$evt" "$log"
+    told "EVT, an EVTX log" 1 "evt: samples/panel.evtx: magic wrong" "$evt" samples/panel.evtx
+    told "EVT, no bytes" 1 "evt: /dev/null: $length" "$evt" /dev/null
+    cp "$made/hand.evt" "$log" && truncate -s 16777216 "$log"
+    printf '%s\n' '1 9 7 4 1 a&lt; ' '2 9 7 4 1' >"$made/due"
+    check "EVT, as long as a log may be" "$made/due" "$evt" "$log"
+    truncate -s 16777217 "$log"
+    told "EVT, a byte longer" 1 "evt: $log: $length" "$evt" "$log"
+    rm -f "$log"
+}
+
 # The examples with a log as their last word. The signal of a closed pipe is set as it is by default, whatever this script was started with.
 plain() {
     env --default-signal=PIPE "$@"
@@ -385,6 +472,11 @@ plain() {
 
 one_text() {
     plain "$made/shared/text" "$1" 0 512
+}
+
+# Beside a log by hand stands the EVT log by hand.
+one_evt() {
+    plain "$made/shared/evt" "${1/%.evtx/.evt}"
 }
 
 # More lines than a pipe holds, of a log whose indexes are kept; of one that has none, what is said without numbers.
@@ -441,6 +533,7 @@ failures() {
     tells_failures carve '' "$long" plain "$made/shared/carve"
     tells_failures arrive '' "$long" plain "$made/shared/arrive"
     tells_failures text '' "$made/longtext.evtx" one_text
+    tells_failures evt '' "$made/longtext.evt" one_evt
     : >"$long.index" && : >"$made/hand.evtx.index"
     tells_failures index '' "$long" many_numbers
     tells_failures list.py '' "$long" plain $python
@@ -449,6 +542,7 @@ failures() {
         told "$name, closed output" 1 "$name: standard output: Bad file descriptor" to_closed "$made/shared/$name" "$long"
     done
     told "text, closed output" 1 "text: standard output: Bad file descriptor" to_closed one_text "$made/hand.evtx"
+    told "evt, closed output" 1 "evt: standard output: Bad file descriptor" to_closed one_evt "$made/hand.evt"
     told "index, closed output" 1 "index: standard output: Bad file descriptor" to_closed many_numbers "$long"
     told "list.py, closed output" 1 "list.py: standard output: Bad file descriptor" to_closed $python "$long"
     told "evtx_safe, closed output, for which Rust puts /dev/null" 0 '' to_closed "$rust" "$long"
@@ -456,6 +550,7 @@ failures() {
     wrong_arguments carve FILE "$made/shared/carve"
     wrong_arguments arrive FILE "$made/shared/arrive"
     wrong_arguments text 'LOG CHUNK OFFSET' "$made/shared/text"
+    wrong_arguments evt LOG "$made/shared/evt"
     told "text, no number" 2 "usage: text LOG CHUNK OFFSET" "$made/shared/text" samples/panel.evtx 0 -512
     told "index, no arguments" 2 "usage: index LOG [NUMBER..]" "$made/shared/index"
     told "index, no number" 2 "usage: index LOG [NUMBER..]" "$made/shared/index" samples/panel.evtx 1 -2
@@ -476,6 +571,8 @@ across_windows
 sample_indexes
 grown_indexes
 refused_indexes
+evt_logs
+evt_refusals
 failures
 echo "examples: $checks checks, $failed failed"
 [ "$failed" -eq 0 ]

@@ -99,6 +99,9 @@ evtx_index_build(in, 8, out, 8)
 evtx_index_entry(in, 8, 0)
 evtx_index_find(in, 8, 0)
 evtx_index_add(in, 8, store, 8, out, 8)
+evtx_evt_header(in, 8, out, 8)
+evtx_evt_text(in, 8, 0, out, 8)
+evtx_evt_record(in, 8, 0)
 CALLS
 }
 

@@ -1,7 +1,7 @@
 #!/usr/bin/env bash
 # Installs into folders under target/, looks at what then stands there, calls the front from its place, and takes everything away again.
-# What is due is written here by hand, or is samples/panel.listing or samples/panel.index, which the second reader wrote, or
-# samples/panel.carving (carving.sh).
+# What is due is written here by hand, or is samples/panel.listing, samples/oldpanel.listing or samples/panel.index, which the second reader wrote,
+# or samples/panel.carving (carving.sh).
 #
 #     install.sh
 #
@@ -14,7 +14,7 @@ made=$(realpath target)/install
 root="$made/a root"
 tree="$root/opt/evtx"
 evtx="$tree/bin/evtx"
-library="$tree/lib/libevtx_c.so.0.5.0"
+library="$tree/lib/libevtx_c.so.0.6.0"
 completions="$tree/share/bash-completion/completions"
 usage='usage: evtx_list [--help | --version | FILE..]'
 carve_usage='usage: evtx_carve [--help | --version | FILE..]'
@@ -23,6 +23,7 @@ front_usage='usage: evtx [--help | --version | help | list [FILE..] | carve [FIL
 listing=$(cat samples/panel.listing)
 carving=$(cat samples/panel.carving)
 indexing=$(cat samples/panel.index)
+evt_listing=$(cat samples/oldpanel.listing)
 checks=0
 failed=0
 
@@ -69,19 +70,22 @@ d 755 share/man
 d 755 share/man/man1
 f 644 include/evtx.h
 f 644 lib/libevtx_c.a
-f 644 lib/libevtx_c.so.0.5.0
+f 644 lib/libevtx_c.so.0.6.0
 f 644 lib/pkgconfig/evtx.pc
 f 644 share/bash-completion/completions/evtx
+f 644 share/man/man1/evt_list.1
 f 644 share/man/man1/evtx.1
 f 644 share/man/man1/evtx_carve.1
 f 644 share/man/man1/evtx_index.1
 f 644 share/man/man1/evtx_list.1
+f 755 bin/evt_list
 f 755 bin/evtx
 f 755 bin/evtx_list
 link bin/evtx_carve -> evtx_list
 link bin/evtx_index -> evtx_list
 link lib/libevtx_c.so -> libevtx_c.so.0
-link lib/libevtx_c.so.0 -> libevtx_c.so.0.5.0
+link lib/libevtx_c.so.0 -> libevtx_c.so.0.6.0
+link share/bash-completion/completions/evt_list -> evtx
 link share/bash-completion/completions/evtx_carve -> evtx
 link share/bash-completion/completions/evtx_index -> evtx
 link share/bash-completion/completions/evtx_list -> evtx
@@ -93,6 +97,9 @@ calls_due() {
 evtx_check_chunk
 evtx_check_file_header
 evtx_close
+evtx_evt_header
+evtx_evt_record
+evtx_evt_text
 evtx_feed
 evtx_free_space_offset
 evtx_index_add
@@ -123,22 +130,24 @@ installed_files() {
 }
 
 versions() {
-    same "the version of pkg-config" 0.5.0 "$(PKG_CONFIG_PATH="$tree/lib/pkgconfig" pkg-config --modversion evtx)"
-    same "the version of the header" '"0.5.0"' "$(printf '#include <evtx.h>\nEVTX_VERSION\n' | gcc -E -P -I "$tree/include" - | tail -n 1)"
-    same "the version of the page evtx.1" '.TH EVTX 1 "" "evtx 0.5.0"' "$(grep '^\.TH' "$tree/share/man/man1/evtx.1")"
-    same "the version of the page evtx_list.1" '.TH EVTX_LIST 1 "" "evtx 0.5.0"' "$(grep '^\.TH' "$tree/share/man/man1/evtx_list.1")"
-    same "the version of the page evtx_carve.1" '.TH EVTX_CARVE 1 "" "evtx 0.5.0"' "$(grep '^\.TH' "$tree/share/man/man1/evtx_carve.1")"
-    same "the version of the page evtx_index.1" '.TH EVTX_INDEX 1 "" "evtx 0.5.0"' "$(grep '^\.TH' "$tree/share/man/man1/evtx_index.1")"
-    answers "evtx --version" 0 'evtx 0.5.0' '' "$evtx" --version
-    answers "evtx list --version" 0 'evtx_list 0.5.0' '' "$evtx" list --version
-    answers "evtx carve --version" 0 'evtx_carve 0.5.0' '' "$evtx" carve --version
-    answers "evtx index --version" 0 'evtx_index 0.5.0' '' "$evtx" index --version
+    same "the version of pkg-config" 0.6.0 "$(PKG_CONFIG_PATH="$tree/lib/pkgconfig" pkg-config --modversion evtx)"
+    same "the version of the header" '"0.6.0"' "$(printf '#include <evtx.h>\nEVTX_VERSION\n' | gcc -E -P -I "$tree/include" - | tail -n 1)"
+    same "the version of the page evtx.1" '.TH EVTX 1 "" "evtx 0.6.0"' "$(grep '^\.TH' "$tree/share/man/man1/evtx.1")"
+    same "the version of the page evtx_list.1" '.TH EVTX_LIST 1 "" "evtx 0.6.0"' "$(grep '^\.TH' "$tree/share/man/man1/evtx_list.1")"
+    same "the version of the page evtx_carve.1" '.TH EVTX_CARVE 1 "" "evtx 0.6.0"' "$(grep '^\.TH' "$tree/share/man/man1/evtx_carve.1")"
+    same "the version of the page evtx_index.1" '.TH EVTX_INDEX 1 "" "evtx 0.6.0"' "$(grep '^\.TH' "$tree/share/man/man1/evtx_index.1")"
+    same "the version of the page evt_list.1" '.TH EVT_LIST 1 "" "evtx 0.6.0"' "$(grep '^\.TH' "$tree/share/man/man1/evt_list.1")"
+    answers "evt_list --version" 0 'evt_list 0.6.0' '' "$tree/bin/evt_list" --version
+    answers "evtx --version" 0 'evtx 0.6.0' '' "$evtx" --version
+    answers "evtx list --version" 0 'evtx_list 0.6.0' '' "$evtx" list --version
+    answers "evtx carve --version" 0 'evtx_carve 0.6.0' '' "$evtx" carve --version
+    answers "evtx index --version" 0 'evtx_index 0.6.0' '' "$evtx" index --version
 }
 
 man_pages() {
     local page
     command -v groff >/dev/null || { echo "install: groff is not installed, and the man pages were not looked at" && return; }
-    for page in evtx evtx_list evtx_carve evtx_index; do
+    for page in evtx evtx_list evtx_carve evtx_index evt_list; do
         same "what groff says of $page.1" '' "$(groff -t -man -ww -b -Tutf8 "$tree/share/man/man1/$page.1" 2>&1 >/dev/null)"
     done
 }
@@ -172,6 +181,8 @@ completion() {
     completed "evtx list --" '--help --version' evtx list --
     completed "evtx list sam" 'compopt -o default' evtx list sam
     completed "evtx help sam" '' evtx help sam
+    completed "evt_list --v" --version evt_list --v
+    completed "evt_list a sam" 'compopt -o default' evt_list a sam
     completed "evtx_list --v" --version evtx_list --v
     completed "evtx_list a sam" 'compopt -o default' evtx_list a sam
 }
@@ -180,10 +191,10 @@ front_help() {
     cat <<'END'
 usage: evtx [--help | --version | help | list [FILE..] | carve [FILE..] | index [NUMBER] [FILE..]]
 
-Reads Windows XML event logs (EVTX).
+Reads Windows XML event logs (EVTX), and lists the older EVT logs too.
 
   evtx list [FILE..]   lists the records of each FILE, or of standard input (-);
-                       evtx list --help says more
+                       evtx list --help says more, of EVT logs evt_list --help
   evtx carve [FILE..]  finds the whole records in bytes of any size and origin;
                        evtx carve --help says more
   evtx index [NUMBER] [FILE..]
@@ -284,6 +295,19 @@ listings() {
     answers "evtx list of a missing file" 1 '' 'evtx_list: nofile: No such file or directory' "$evtx" list nofile
     answers "evtx list of a folder and a log" 1 $'samples:\nsamples/panel.evtx:\n'"$listing" 'evtx_list: samples: Is a directory' \
         "$evtx" list samples samples/panel.evtx
+}
+
+# EVT logs, and files of both kinds. tests/evt_program.sh tries the front on more of them, beside a stand-in for evtx_list.
+evt_listings() {
+    local mixed=$'samples/oldpanel.evt:\n'"$evt_listing"$'\nsamples/panel.evtx:\n'"$listing"
+    answers "evtx list of an EVT log" 0 "$evt_listing" '' "$evtx" list samples/oldpanel.evt
+    answers "evt_list found by PATH" 0 "$evt_listing" '' env PATH="$tree/bin:$PATH" evt_list samples/oldpanel.evt
+    answers "evtx list of an EVT log by a symbolic link" 0 "$evt_listing" '' "$made/link" list samples/oldpanel.evt
+    answers "evtx list of both kinds" 0 "$mixed" '' "$evtx" list samples/oldpanel.evt samples/panel.evtx
+    answers "evtx list of both kinds and a missing file" 1 "$mixed"$'\nnofile:' 'evtx_list: nofile: No such file or directory' \
+        "$evtx" list samples/oldpanel.evt samples/panel.evtx nofile
+    answers "evtx list of an EVT log, full output" 1 '' 'evt_list: standard output: No space left on device' \
+        sh -c '"$0" list samples/oldpanel.evt >/dev/full' "$evtx"
 }
 
 carvings() {
@@ -409,7 +433,7 @@ uninstalled() {
     mkdir -p "$tree/share/man/man1" "$tree/include" && echo foreign >"$tree/share/man/man1/foreign.1" || stop "$tree cannot be made"
     make_target install
     make_target install
-    same "the page of others beside ours" $'evtx.1\nevtx_carve.1\nevtx_index.1\nevtx_list.1\nforeign.1' "$(ls "$tree/share/man/man1")"
+    same "the page of others beside ours" $'evt_list.1\nevtx.1\nevtx_carve.1\nevtx_index.1\nevtx_list.1\nforeign.1' "$(ls "$tree/share/man/man1")"
     make_target uninstall
     same "what is left where others are" "$(left_due)" "$(cd "$root" && find . | LC_ALL=C sort)"
     make_target uninstall
@@ -425,6 +449,7 @@ man_pages
 completion
 words_of_the_front
 listings
+evt_listings
 carvings
 indexings
 broken_streams sh

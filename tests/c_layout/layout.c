@@ -45,6 +45,7 @@ static const struct {
     STRUCT(evtx_fields, 24),
     STRUCT(evtx_text, 16),
     STRUCT(evtx_entry, 56),
+    STRUCT(evtx_evt_seen, 40),
 };
 
 static const struct {
@@ -70,6 +71,11 @@ static const struct {
     FIELD(evtx_entry, size, 32, 8),
     FIELD(evtx_entry, record_number, 40, 8),
     FIELD(evtx_entry, refusal, 48, 4),
+    FIELD(evtx_evt_seen, number, 0, 4),
+    FIELD(evtx_evt_seen, length, 8, 8),
+    FIELD(evtx_evt_seen, record_number, 16, 8),
+    FIELD(evtx_evt_seen, written_time, 24, 8),
+    FIELD(evtx_evt_seen, next, 32, 8),
 };
 
 #define COUNT(table) (sizeof(table) / sizeof(*(table)))
@@ -111,6 +117,8 @@ static const struct {
     NUMBER(EVTX_AFTER_CLOSING, 14),
     NUMBER(EVTX_NUMBER_TOO_LARGE, 15),
     NUMBER(EVTX_NOT_AN_INDEX, 16),
+    NUMBER(EVTX_NO_TRAILER, 17),
+    NUMBER(EVTX_NO_EVT_RECORD, 18),
     NUMBER(EVTX_FILE_HEADER_SIZE, 4096),
     NUMBER(EVTX_CHUNK_SIZE, 65536),
     NUMBER(EVTX_MOST_BYTES, 16777216),
@@ -125,6 +133,8 @@ static const struct {
     NUMBER(EVTX_ENTRY_SIZE, 11),
     /* 2,322 entries */
     NUMBER(EVTX_MOST_BYTES_OF_INDEX, 25542),
+    NUMBER(EVTX_EVT_HEADER_SIZE, 48),
+    NUMBER(EVTX_MOST_EVT, 16777216),
 };
 
 static const char *const versions[] = { "EVTX_VERSION", "EVTX_VERSION_MAJOR", "EVTX_VERSION_MINOR", "EVTX_VERSION_PATCH" };
@@ -715,21 +725,127 @@ static void index_add(const char *name)
     written(name, "a length with one bit more", 0);
 }
 
-/* The header has this one whole. 17 is the first number that no call answers. */
+/* A clean EVT log: a record of 64 bytes at 48, which ends with the log, without strings. Behind it more zeros may count as of the log. Each of
+ * its numbers has its highest bit set. */
+enum { OLD_RECORD = 64, OLD_LOG = 48 + OLD_RECORD, OLD_TEXT = 44 };
+
+static uint8_t old_log[8192];
+static const char old_text[] = "2147483649 2147483650 2147483651 32772 32773";
+
+static void lay_old_log(void)
+{
+    memset(old_log, 0, sizeof old_log);
+    put(old_log, 48, 4);
+    memcpy(old_log + 4, "LfLe", 4);
+    put(old_log + 8, 1, 4);
+    put(old_log + 12, 1, 4);
+    put(old_log + 44, 48, 4);
+    put(old_log + 48, OLD_RECORD, 4);
+    memcpy(old_log + 52, "LfLe", 4);
+    put(old_log + 56, 0x80000001, 4);
+    put(old_log + 64, 0x80000002, 4);
+    put(old_log + 68, 0x80000003, 4);
+    put(old_log + 72, 0x8004, 2);
+    put(old_log + 76, 0x8005, 2);
+    put(old_log + OLD_LOG - 4, OLD_RECORD, 4);
+}
+
+/* What stands in `out`, beside what is due at its front. */
+static void holds(const char *name, const char *what, const void *front, size_t length)
+{
+    uint8_t due[OLD_RECORD];
+    memset(due, KEPT, sizeof due);
+    memcpy(due, front, length);
+    equal(name, what, "what is written equals that due", memcmp(out, due, sizeof due) == 0, 1);
+    memset(out, KEPT, sizeof due);
+}
+
+static void evt_header(const char *name)
+{
+    evtx_answer (*call)(const uint8_t *, size_t, uint8_t *, size_t) = evtx_evt_header;
+    lay_old_log();
+    memset(out, KEPT, OLD_RECORD);
+    answer(name, "one byte too few", call(old_log, OLD_LOG, out, 47), 13, 0);
+    holds(name, "one byte too few", "", 0);
+    for (unsigned b = 6; b <= LONGEST_BIT; b++) {
+        answer(name, "a room of one bit", call(old_log, OLD_LOG, out, BIT(b)), 0, 48);
+        holds(name, "a room of one bit", old_log, 48);
+    }
+    answer(name, "47 bytes", call(old_log, 47, out, 48), 1, 0);
+    for (unsigned b = 24; b <= LONGEST_BIT; b++)
+        answer(name, "a length with one bit more", call(old_log, OLD_LOG + BIT(b), out, 48), 1, 0);
+    old_log[36] = 1;
+    answer(name, "no trailer", call(old_log, OLD_LOG, out, 48), 17, 0);
+    old_log[8] = 2;
+    answer(name, "another header", call(old_log, OLD_LOG, out, 48), 2, 0);
+    holds(name, "refused", "", 0);
+}
+
+static void evt_text(const char *name)
+{
+    evtx_text (*call)(const uint8_t *, size_t, uint64_t, uint8_t *, size_t) = evtx_evt_text;
+    lay_old_log();
+    memset(out, KEPT, OLD_RECORD);
+    text(name, "one byte too few", call(old_log, OLD_LOG, 48, out, OLD_TEXT - 1), 13, 0);
+    holds(name, "one byte too few", "", 0);
+    text(name, "just enough room", call(old_log, OLD_LOG, 48, out, OLD_TEXT), 0, OLD_TEXT);
+    holds(name, "just enough room", old_text, OLD_TEXT);
+    for (unsigned b = 6; b <= LONGEST_BIT; b++) {
+        text(name, "a room of one bit", call(old_log, OLD_LOG, 48, out, BIT(b)), 0, OLD_TEXT);
+        holds(name, "a room of one bit", old_text, OLD_TEXT);
+    }
+    for (unsigned b = 0; b < 64; b++)
+        text(name, "an offset with one bit more", call(old_log, OLD_LOG, 48 + BIT(b), out, 64), 18, 0);
+    for (unsigned b = 24; b <= LONGEST_BIT; b++)
+        text(name, "a length with one bit more", call(old_log, OLD_LOG + BIT(b), 48, out, 64), 1, 0);
+    holds(name, "refused", "", 0);
+}
+
+static void seen(const char *call, const char *what, evtx_evt_seen is, const uint64_t due[5])
+{
+    equal(call, what, "number", is.number, due[0]);
+    equal(call, what, "length", is.length, due[1]);
+    equal(call, what, "record_number", is.record_number, due[2]);
+    equal(call, what, "written_time", is.written_time, due[3]);
+    equal(call, what, "next", is.next, due[4]);
+}
+
+static void evt_record(const char *name)
+{
+    evtx_evt_seen (*call)(const uint8_t *, size_t, uint64_t) = evtx_evt_record;
+    const uint64_t ends[] = { 0, OLD_RECORD, 0x80000001, 0x80000002, 48 }, goes_on[] = { 0, OLD_RECORD, 0x80000001, 0x80000002, OLD_LOG };
+    uint8_t is[IMAGE];
+    lay_old_log();
+    seen(name, "a record that ends with the log", call(old_log, OLD_LOG, 48), ends);
+    for (unsigned b = 0; b < 13; b++)
+        if (OLD_LOG + BIT(b) <= sizeof old_log)
+            seen(name, "a length with one bit more", call(old_log, OLD_LOG + BIT(b), 48), goes_on);
+    memset(is, KEPT, IMAGE);
+    ((to_memory *)(void (*)(void))call)(is + BEFORE, old_log, OLD_LOG, 48);
+    image(name, "evtx_evt_seen", is, ends);
+    for (unsigned b = 0; b < 64; b++)
+        seen(name, "an offset with one bit more", call(old_log, OLD_LOG, 48 + BIT(b)), (const uint64_t[]){ 18, 0, 0, 0, 0 });
+    for (unsigned b = 24; b <= LONGEST_BIT; b++)
+        seen(name, "a length with one bit more", call(old_log, OLD_LOG + BIT(b), 48), (const uint64_t[]){ 1, 0, 0, 0, 0 });
+}
+
+/* The header has this one whole. 19 is the first number that no call answers. */
 static void message(const char *name)
 {
     const char *(*call)(uint32_t) = evtx_message;
-    for (uint32_t m = 0; m < 17; m++) {
+    for (uint32_t m = 0; m < 19; m++) {
         equal(name, "a number of an answer", "it has a text", call(m)[0] != '\0', 1);
-        for (uint32_t n = m + 1; n <= 17; n++)
+        for (uint32_t n = m + 1; n <= 19; n++)
             equal(name, "two numbers", "their texts differ", strcmp(call(m), call(n)) != 0, 1);
     }
     for (unsigned b = 5; b < 32; b++)
-        equal(name, "a number of one bit, above 16", "its text is that of 17", strcmp(call((uint32_t)BIT(b)), call(17)) == 0, 1);
-    equal(name, "the largest number", "its text is that of 17", strcmp(call(UINT32_MAX), call(17)) == 0, 1);
+        equal(name, "a number of one bit, above 18", "its text is that of 19", strcmp(call((uint32_t)BIT(b)), call(19)) == 0, 1);
+    equal(name, "the largest number", "its text is that of 19", strcmp(call(UINT32_MAX), call(19)) == 0, 1);
     equal(name, "14", "its text is that due", strcmp(call(14), "a call after the closing one") == 0, 1);
     equal(name, "15", "its text is that due", strcmp(call(15), "record number of 2^48 or more, too large for an index") == 0, 1);
     equal(name, "16", "its text is that due", strcmp(call(16), "no index: length no multiple of 11, or zero bits not zero") == 0, 1);
+    equal(name, "17", "its text is that due", strcmp(call(17), "a dirty EVT log without exactly one trailer") == 0, 1);
+    equal(name, "18", "its text is that due", strcmp(call(18), "no record of an EVT log at the offset asked for") == 0, 1);
 }
 
 static const struct {
@@ -755,6 +871,9 @@ static const struct {
     { "evtx_index_entry", index_entry },
     { "evtx_index_find", index_find },
     { "evtx_index_add", index_add },
+    { "evtx_evt_header", evt_header },
+    { "evtx_evt_text", evt_text },
+    { "evtx_evt_record", evt_record },
     { "evtx_message", message },
 };
 

@@ -18,7 +18,7 @@ use std::path::Path;
 use std::process::ExitCode;
 use support::difference::{report, Difference, Origin, Outcome};
 use support::offsets::worth_asking;
-use support::seed::take_seed;
+use support::run::run;
 use support::tally::Tally;
 
 /// What each call must have answered in the end.
@@ -114,40 +114,12 @@ fn reported(outcome: Result<usize, Differing>) -> Option<usize> {
     }
 }
 
-/// Whether each call answered all that it must have.
-fn complete(tally: &Tally) -> bool {
-    let mut complete = true;
-    for (call, numbers) in EXPECTED {
-        let missing = tally.never_answered(call, numbers);
-        if !missing.is_empty() {
-            println!("numbers never answered by {call}: {missing:?}");
-            complete = false;
-        }
-    }
-    complete
-}
-
 fn main() -> ExitCode {
-    let seed = match take_seed(&mut std::env::args().skip(1).collect()) {
-        Ok(seed) => seed,
-        Err(error) => {
-            println!("{error}");
-            return ExitCode::FAILURE;
-        }
-    };
-    let mut tally = Tally::default();
-    let Some(hand) = by_hand(&mut tally) else { return ExitCode::FAILURE };
-    let base = seed.unwrap_or(cases::SEED);
-    let Some(cases) = generated(base, &mut tally) else { return ExitCode::FAILURE };
-    let Some(fed) = reported(fed::compare_all(base, &mut tally)) else { return ExitCode::FAILURE };
-    let Some(indexed) = reported(indexed::compare_all(base, &mut tally)) else {
-        return ExitCode::FAILURE;
-    };
-    print!("{tally}");
-    if !complete(&tally) {
-        return ExitCode::FAILURE;
-    }
-    let inputs = hand + cases + fed + indexed;
-    println!("{inputs} inputs, {} answers, no difference", tally.total());
-    ExitCode::SUCCESS
+    run(cases::SEED, &EXPECTED, |seed, tally| {
+        let hand = by_hand(tally)?;
+        let cases = generated(seed, tally)?;
+        let fed = reported(fed::compare_all(seed, tally))?;
+        let indexed = reported(indexed::compare_all(seed, tally))?;
+        Some(hand + cases + fed + indexed)
+    })
 }

@@ -1,7 +1,7 @@
 //! One input of a comparison: after each call the answers of both readers are
 //! compared here, and the lent memory is checked.
 
-use first_reader::answers::{Answer, Entry, Fields, Found, Stretch, Text};
+use first_reader::answers::{Answer, Entry, Fields, Found, Seen, Stretch, Text};
 use std::fmt::{Debug, Display};
 use support::difference::{Difference, Outcome};
 use support::lent::Lent;
@@ -22,7 +22,7 @@ macro_rules! numbered {
     };
 }
 
-numbered!(Answer, Found, Stretch, Fields, Text, Entry);
+numbered!(Answer, Found, Stretch, Fields, Text, Entry, Seen);
 
 pub struct Trial<'a> {
     pub bytes: &'a [u8],

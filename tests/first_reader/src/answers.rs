@@ -1,10 +1,10 @@
 //! What the calls answer. Each answer can also be made of what the second
 //! reader gives, to be compared.
 
-use second_reader::{index, record};
+use second_reader::{evt, index, record};
 
 /// What a check, a search, a packet, the end of a stream, a call that writes an
-/// index or one for a record's size answers.
+/// index or the header of an EVT log, or one for a record's size answers.
 #[repr(C)]
 #[derive(Clone, Copy, Debug, PartialEq, Eq)]
 pub struct Answer {
@@ -38,7 +38,7 @@ pub struct Fields {
     pub written_time: u64,
 }
 
-/// What a call for a record's text or for its length answers.
+/// What a call for a record's text, also in an EVT log, or for its length answers.
 #[repr(C)]
 #[derive(Clone, Copy, Debug, PartialEq, Eq)]
 pub struct Text {
@@ -57,6 +57,17 @@ pub struct Entry {
     pub size: u64,
     pub record_number: u64,
     pub refusal: u32,
+}
+
+/// What a call for what stands at an offset of an EVT log answers.
+#[repr(C)]
+#[derive(Clone, Copy, Debug, PartialEq, Eq)]
+pub struct Seen {
+    pub number: u32,
+    pub length: u64,
+    pub record_number: u64,
+    pub written_time: u64,
+    pub next: u64,
 }
 
 impl Answer {
@@ -123,5 +134,16 @@ impl From<Result<index::Placed, u32>> for Entry {
         };
         let index::Entry { offset, size, record_number, refusal } = entry;
         Entry { number, position, chunk_number: 0, offset, size, record_number, refusal }
+    }
+}
+
+impl From<Result<evt::At, u32>> for Seen {
+    fn from(at: Result<evt::At, u32>) -> Seen {
+        match at {
+            Ok(evt::At { length, number: record_number, written_time, next }) => {
+                Seen { number: 0, length, record_number, written_time, next }
+            }
+            Err(number) => Seen { number, length: 0, record_number: 0, written_time: 0, next: 0 },
+        }
     }
 }

@@ -1,6 +1,6 @@
 //! The C interface as include/evtx.h declares it.
 
-use crate::answers::{Answer, Entry, Fields, Found, Stretch, Text};
+use crate::answers::{Answer, Entry, Fields, Found, Seen, Stretch, Text};
 
 // Not bundled: the archive is asked for where a program is linked that makes
 // calls, and nothing else needs it.
@@ -60,4 +60,13 @@ extern "C" {
         out: *mut u8,
         room: usize,
     ) -> Answer;
+    pub fn evtx_evt_header(file: *const u8, length: usize, out: *mut u8, room: usize) -> Answer;
+    pub fn evtx_evt_record(file: *const u8, length: usize, offset: u64) -> Seen;
+    pub fn evtx_evt_text(
+        file: *const u8,
+        length: usize,
+        offset: u64,
+        out: *mut u8,
+        room: usize,
+    ) -> Text;
 }

@@ -4,7 +4,7 @@
 pub mod answers;
 pub mod calls;
 
-use answers::{Answer, Entry, Fields, Found, Stretch, Text};
+use answers::{Answer, Entry, Fields, Found, Seen, Stretch, Text};
 use calls::*;
 use support::lent::Lent;
 
@@ -151,4 +151,16 @@ pub fn index_add(
             out.length(),
         )
     }
+}
+
+pub fn evt_header(file: &mut impl Lendable<u8>, out: &mut impl Lendable<u8>) -> Answer {
+    unsafe { evtx_evt_header(file.pointer(), file.length(), out.pointer(), out.length()) }
+}
+
+pub fn evt_record(file: &mut impl Lendable<u8>, offset: u64) -> Seen {
+    unsafe { evtx_evt_record(file.pointer(), file.length(), offset) }
+}
+
+pub fn evt_text(file: &mut impl Lendable<u8>, offset: u64, out: &mut impl Lendable<u8>) -> Text {
+    unsafe { evtx_evt_text(file.pointer(), file.length(), offset, out.pointer(), out.length()) }
 }

@@ -5,6 +5,7 @@
 //! that are missing are 0.
 
 use crate::bases::{base, file_header};
+use crate::evt::log_of_record;
 use log_writer::{frame, put, CHUNK};
 use support::generate::{seal_chunk, seal_chunk_header, seal_file_header};
 
@@ -32,9 +33,13 @@ pub enum Form {
     FileHeader,
     /// What is lent, as it is.
     Loose,
+    /// What a record of an EVT log has behind its magic, at the offset, in a log of it
+    /// and of as many bytes more as the base says.
+    EvtRecord,
 }
 
-const FORMS: [Form; 5] = [Form::Record, Form::Pieces, Form::Front, Form::FileHeader, Form::Loose];
+const FORMS: [Form; 6] =
+    [Form::Record, Form::Pieces, Form::Front, Form::FileHeader, Form::Loose, Form::EvtRecord];
 
 /// Which calls are made. The searches and the checks of a chunk take many times
 /// as long as the others, so an input asks for one of these.
@@ -59,9 +64,11 @@ pub enum Calls {
     /// The bytes as an index: the entry at the position that the offset says, some
     /// numbers, and one entry more, of the base.
     Entries,
+    /// The bytes as an EVT log: its header, and records and texts from the offset on.
+    Evt,
 }
 
-pub const CALLS: [Calls; 8] = [
+pub const CALLS: [Calls; 9] = [
     Calls::Record,
     Calls::Checks,
     Calls::Searches,
@@ -70,12 +77,13 @@ pub const CALLS: [Calls; 8] = [
     Calls::Store,
     Calls::Index,
     Calls::Entries,
+    Calls::Evt,
 ];
 
 #[derive(Clone, Copy, Debug)]
 pub struct Head {
     pub form: Form,
-    /// Which chunk the bytes are laid over.
+    /// Which chunk the bytes are laid over, or how many more an EVT log has.
     pub base: u8,
     pub flags: u8,
     pub calls: Calls,
@@ -129,9 +137,10 @@ impl Form {
             Form::Front => laid_over(base(head.base), rest),
             Form::Pieces => with_pieces(base(head.base).to_vec(), rest),
             Form::Record => with_record(base(head.base).to_vec(), head.offset as u16, rest),
+            Form::EvtRecord => log_of_record(head, rest),
         };
         match self {
-            Form::Loose => (),
+            Form::Loose | Form::EvtRecord => (),
             Form::FileHeader if head.has(SEALED) => seal_file_header(&mut bytes),
             Form::FileHeader => (),
             _ if head.has(SEALED) => seal_chunk(&mut bytes),

@@ -2,6 +2,7 @@
 //! calls are made and on what memory; the answers and the memory are compared.
 
 mod bases;
+mod evt;
 mod form;
 mod indexed;
 mod packets;
@@ -36,5 +37,6 @@ pub fn one_input(input: &[u8], tally: &mut Tally) -> Outcome {
         Calls::Store => packets::store(&head, &bytes, tally),
         Calls::Index => trial(&|trial| indexed::chunk(&head, trial)),
         Calls::Entries => indexed::entries(&head, &bytes, tally),
+        Calls::Evt => trial(&|trial| evt::log(&head, trial)),
     }
 }

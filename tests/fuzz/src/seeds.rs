@@ -1,6 +1,8 @@
 //! The inputs that a fuzzer begins with: the records of the chunks that inputs
 //! are laid over, generated questions, headers, sizes at the bounds, loose bytes,
-//! streams with stores, and indexes.
+//! streams with stores, indexes, and EVT logs.
+
+mod evt;
 
 use crate::form::{pieces, Calls, Form, Head, CALLS, HEADER_SEALED, LONG, SEALED, SHORT};
 use crate::packets::STATED;
@@ -29,6 +31,7 @@ pub fn all() -> Vec<Vec<u8>> {
     seeds.extend(streams());
     seeds.extend(indexes());
     seeds.extend(numbers());
+    seeds.extend(evt::all());
     seeds.retain(|seed| seed.len() <= LONGEST);
     seeds
 }

@@ -2,3 +2,4 @@
 //! writes outside what it is lent ends the program.
 
 pub mod fenced;
+pub mod outputs;

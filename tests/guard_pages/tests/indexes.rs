@@ -3,41 +3,23 @@
 
 use first_reader::answers::{Answer, Entry};
 use guard_pages::fenced::{Fenced, EDGES};
+use guard_pages::outputs;
 use log_writer::{frame, put, Random, CHUNK, DATA};
 use second_reader::index::{Index, Records, ENTRY_LENGTH};
-use second_reader::numbers::NO_ROOM;
 use second_reader::record::search_chunk;
 use std::collections::BTreeSet;
 use support::damage::overlaps;
+use support::difference::Due;
 use support::generate::{dense_bytes, sound_chunk};
 
 const SEED: u64 = 0x0065_7674_7800_0012;
-/// Bytes of an output where nothing is written.
-const KEPT: u8 = 0xf9;
 
-/// What is to be written, or the refusal.
-type Due = Result<Vec<u8>, u32>;
-
-/// Rooms that are none, odd, and around the length that is due.
-fn rooms(due: &Due) -> BTreeSet<usize> {
-    let length = due.as_ref().map_or(0, Vec::len);
-    BTreeSet::from([0, length.saturating_sub(1), length, length + 1, length + 77])
-}
-
-/// The call with each room, and the output at both edges.
+/// The call answers number and length, and writes what is due.
 fn writes(due: &Due, call: &mut dyn FnMut(&mut Fenced) -> Answer) {
-    for room in rooms(due) {
-        let (number, written) = match due {
-            Ok(bytes) if bytes.len() > room => (NO_ROOM, &[][..]),
-            Ok(bytes) => (0, bytes.as_slice()),
-            Err(number) => (*number, &[][..]),
-        };
-        for edge in EDGES {
-            let mut out = Fenced::new(&vec![KEPT; room], edge);
-            assert_eq!(call(&mut out), Answer { number, length: written.len() as u64 });
-            assert!(out.holds(written, KEPT));
-        }
-    }
+    outputs::writes(due, &mut |out| {
+        let Answer { number, length } = call(out);
+        (number, length)
+    });
 }
 
 fn kept(memory: &Fenced, bytes: &[u8]) {

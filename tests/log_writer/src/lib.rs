@@ -1,8 +1,9 @@
 //! Writes what logs are made of, for the tests of either reader: fields,
-//! records, chunks and binary XML. It depends on neither reader.
+//! records, chunks and binary XML, and EVT logs. It depends on neither reader.
 #![forbid(unsafe_code)]
 
 mod bytes;
+pub mod evt;
 mod headers;
 mod random;
 mod records;

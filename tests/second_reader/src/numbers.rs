@@ -1,5 +1,5 @@
 //! The numbers a call may answer, what a refused text carries, the sizes that
-//! all calls share, and little-endian fields.
+//! all calls share, little-endian fields, and the room for what is written.
 
 pub const DONE: u32 = 0;
 pub const WRONG_LENGTH: u32 = 1;
@@ -18,6 +18,8 @@ pub const NO_ROOM: u32 = 13;
 pub const AFTER_CLOSING: u32 = 14;
 pub const NUMBER_TOO_LARGE: u32 = 15;
 pub const NOT_AN_INDEX: u32 = 16;
+pub const NOT_ONE_TRAILER: u32 = 17;
+pub const NO_EVT_RECORD: u32 = 18;
 
 pub const FILE_HEADER_LENGTH: usize = 4_096;
 pub const CHUNK_LENGTH: usize = 65_536;
@@ -50,4 +52,12 @@ pub fn little_endian(bytes: &[u8]) -> u64 {
 /// The field of `length` bytes at `at` as a little-endian number.
 pub fn field(bytes: &[u8], at: usize, length: usize) -> u64 {
     little_endian(&bytes[at..at + length])
+}
+
+/// What is to be written; refuses 13.
+pub fn within_room(bytes: Vec<u8>, room: usize) -> Result<Vec<u8>, u32> {
+    if bytes.len() > room {
+        return Err(NO_ROOM);
+    }
+    Ok(bytes)
 }

@@ -20,6 +20,9 @@ impl fmt::Display for Difference {
 
 pub type Outcome = Result<(), Difference>;
 
+/// What a call is to write, or the number that it refuses with.
+pub type Due = Result<Vec<u8>, u32>;
+
 /// An input and how it came about.
 pub struct Origin<'a> {
     pub kind: &'a str,

@@ -8,6 +8,7 @@ pub mod generate;
 pub mod kinds;
 pub mod lent;
 pub mod offsets;
+pub mod run;
 pub mod samples;
 pub mod seed;
 pub mod tally;

@@ -90,19 +90,6 @@ fn programs(program: &Path, seed: Option<u64>, tally: &mut Tally) -> bool {
     }
 }
 
-/// Prints which expected numbers were never answered. Answers whether none was missing.
-fn complete(tally: &Tally) -> bool {
-    let mut complete = true;
-    for (call, numbers) in EXPECTED {
-        let missing = tally.never_answered(call, numbers);
-        if !missing.is_empty() {
-            println!("numbers never answered by {call}: {missing:?}");
-            complete = false;
-        }
-    }
-    complete
-}
-
 /// Compares all, or what is generated from a seed. Answers whether the readers agree, and on enough.
 fn compare(program: &Path, seed: Option<u64>, long: bool) -> bool {
     let mut tally = Tally::default();
@@ -113,7 +100,7 @@ fn compare(program: &Path, seed: Option<u64>, long: bool) -> bool {
         return false;
     }
     print!("{tally}");
-    let complete = seed.is_some() || complete(&tally);
+    let complete = seed.is_some() || tally.complete(&EXPECTED);
     println!("{} answers, no difference", tally.total());
     complete
 }
