@@ -273,7 +273,8 @@ unfolding days_of_years
 year_of zero y r h = first_year 0 y r (omega arith)
 year_of (suc k) y r h = go (ltb r (days_of_year y)) refl (λ g. year_of k (suc y) (r - days_of_year y) g)
   where
-    go : (t : Bool) → ltb r (days_of_year y) ≡ t → (r - days_of_year y < days_of_years (suc k) (suc y) → YearOf k (suc y) (r - days_of_year y)) → YearOf (suc k) y r
+    go : (t : Bool) → ltb r (days_of_year y) ≡ t → (r - days_of_year y < days_of_years (suc k) (suc y) → YearOf k (suc y) (r - days_of_year y))
+        → YearOf (suc k) y r
     go true e ih = first_year (suc k) y r (ltb-true r (days_of_year y) e)
     go false e ih =
         let past = ltb-false r (days_of_year y) e in

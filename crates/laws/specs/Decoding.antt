@@ -4,11 +4,12 @@
 --     utf8_back : Below cs → decode (length cs) (encoded cs) ≡ cs
 --     check_value : crc32 (ascii "123456789") ≡ 0xcbf4_3926
 -- The decoder is the usual one, by the first byte; what it gives is the character, by arithmetic in each of the four lengths.
-use Rattle.std.specs.Prelude.{◌≡◌, refl, Bool, true, false, ◌&&◌, ◌||◌, List, [], ◌∷◌, ◌++◌, ℕ, zero, suc, ◌+◌, ◌*◌, ◌-◌, ◌/◌, ◌%◌, ◌<◌, ltb, length, drop, get_or}
+use Rattle.std.specs.Prelude.{◌≡◌, refl, Bool, true, false, ◌&&◌, ◌||◌, List, [], ◌∷◌, ◌++◌, ℕ}
+use Rattle.std.specs.Prelude.{zero, suc, ◌+◌, ◌*◌, ◌-◌, ◌/◌, ◌%◌, ◌<◌, ltb, length, drop, get_or, if◌then◌else◌}
 use Rattle.std.proofs.Common.{ap, ap₂, ◌∙◌, arith, ltb-true, ltb-false, le-leb, lt-ltb, le-ltb}
 use Rattle.std.proofs.Math.Nat.{div-div-eq-div-mul}
 use Rattle.std.proofs.Math.Seq.{drop-append_seam}
-use Rattle.rules.specs.Bytes.{if◌then◌else◌, Text, ascii}
+use Rattle.rules.specs.Bytes.{Text, ascii}
 use Rattle.rules.specs.Strings.{is_high, is_low, of_pair, characters, utf8}
 use Rattle.rules.specs.Opened.{opened}
 use Rattle.rules.specs.Checksum.{crc32}

@@ -3,7 +3,7 @@
 --     no_leading_zero : 0 < n → get_or (digits base n n []) 0 0 ≢ 48, and the digit of 0 is "0"
 --     padded_back : n < base ^ k → read_back base (last_digits lower base k n) ≡ n, in k digits
 -- Once over the base; decimal and hexadecimal are base 10 and 16.
-use Rattle.std.specs.Prelude.{◌≡◌, Bool, [], ◌∷◌, ◌++◌, ◌≢◌, length}
+use Rattle.std.specs.Prelude.{◌≡◌, Bool, [], ◌∷◌, ◌++◌, ◌≢◌, length, if◌then◌else◌}
 use Rattle.std.proofs.Math.Path.{refl, ap}
 use Rattle.std.proofs.Common.{ap₂, sym, ◌∙◌, div-add-mod', div-lt_iff_lt-mul, pow-suc, le-div_iff_mul-le, arith, length-append}
 use Rattle.std.proofs.Math.Bool.{true, false}
@@ -12,7 +12,7 @@ use Rattle.std.proofs.Math.Nat.{div-lt_self, pow-zero}
 use borrow.Author.Tests.{ltb-true, ltb-false, lt-ltb, le-ltb}
 use Rattle.std.proofs.Math.Dec.{ltb}
 use Rattle.std.proofs.Math.ListN.{get_or}
-use Rattle.rules.specs.Bytes.{if◌then◌else◌, Text, ascii}
+use Rattle.rules.specs.Bytes.{Text, ascii}
 use Rattle.rules.specs.Numerals.{lower, digits, decimal, last_digits}
 
 -- the digit that a character stands for

@@ -13,9 +13,6 @@ pub mod Octets
 pub mod Joined
 pub mod Packed
 pub mod Refusals
-pub mod Indexed
-pub mod Entries
-pub mod Additions
 pub mod Found
 pub mod Grows
 pub mod Walks

@@ -4,7 +4,8 @@
 --     nearest_scaled : a fraction may be reduced
 --     nearest_whole, nearest_none : of a whole number, and of less than a half
 use Rattle.std.specs.Prelude.{◌≡◌, refl, Bool, true, false, ◌⊎◌, ℕ, suc, ◌+◌, ◌*◌, ◌-◌, ◌/◌, ◌%◌, ◌≤◌, ◌<◌, ltb, eqb}
-use Rattle.std.proofs.Common.{ap, sym, ◌∙◌, inl, inr, suc-mul, add-mul, mul_assoc, mod-lt, div-add-mod', mul-le-mul_right, mul-lt-mul_of_pos_right, div-one, mod-eq_of_lt, arith, ltb-true, ltb-false, eqb-true, lt-ltb, le-ltb}
+use Rattle.std.proofs.Common.{ap, sym, ◌∙◌, inl, inr, suc-mul, add-mul, mul_assoc, mod-lt, div-add-mod'}
+use Rattle.std.proofs.Common.{mul-le-mul_right, mul-lt-mul_of_pos_right, div-one, mod-eq_of_lt, arith, ltb-true, ltb-false, eqb-true, lt-ltb, le-ltb}
 use Rattle.std.proofs.Math.Nat.{mod-add-div', mul-div-mul_right, mod-one, div-eq_of_lt}
 use Rattle.std.proofs.lemmas.Bool.{eqb-false}
 use Rattle.rules.specs.Reals.{nearest}

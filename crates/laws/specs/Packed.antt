@@ -8,7 +8,8 @@
 -- widths and so in bytes. Where a field ends at a byte, the number falls into two (`fields_append`, `joined_append`).
 use Rattle.std.specs.Prelude.{◌≡◌, List, [], ◌∷◌, ◌++◌, take, drop}
 use Rattle.std.proofs.Math.Path.{refl}
-use Rattle.std.proofs.Common.{ap, ap₂, sym, ◌∙◌, mod-lt, div-one, add-mul, mul_assoc, add_assoc, add_comm, length-drop, take-append-drop, pow-add, pow_pos, shr_lt, shr-shr, length-take-le}
+use Rattle.std.proofs.Common.{ap, ap₂, sym, ◌∙◌, mod-lt, div-one, add-mul, mul_assoc}
+use Rattle.std.proofs.Common.{add_assoc, add_comm, length-drop, take-append-drop, pow-add, pow_pos, shr_lt, shr-shr, length-take-le}
 use Prim.Native.Nat.{ℕ, zero, suc, ◌+◌, ◌*◌, ◌^◌, ◌/◌, ◌%◌, ◌<◌}
 use Rattle.std.proofs.Math.Nat.{pow-zero}
 use native.Mathlib.Omega.{arith}

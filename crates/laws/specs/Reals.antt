@@ -3,8 +3,9 @@
 --     nearest_shifted : a factor of 2 ^ x goes into the denominator
 --     shifted_out : from a shift of 64 on nothing is left
 use Rattle.std.specs.Prelude.{◌≡◌, refl, Bool, true, false, ℕ, suc, ◌+◌, ◌*◌, ◌-◌, ◌^◌, ◌≤◌, ◌<◌, max, ltb, eqb}
-use Rattle.std.proofs.Common.{ap, sym, ◌∙◌, mod-lt, mul_assoc, mul-le-mul, pow-suc, arith, ltb-true, ltb-false, lt-ltb, le-ltb, ne_eqb, lit<, pow-add, pow_pos, shl_lt}
-use Rattle.std.proofs.Math.Bool.{and_false}
+use Rattle.std.proofs.Common.{ap, sym, ◌∙◌, mod-lt, mul_assoc, mul-le-mul, pow-suc, arith}
+use Rattle.std.proofs.Common.{ltb-true, ltb-false, lt-ltb, le-ltb, ne_eqb, lit<, pow-add, pow_pos, shl_lt}
+use Rattle.std.proofs.Math.Bool.{and-false}
 use Rattle.std.proofs.Math.Nat.{pow-le-pow_right}
 use Rattle.rules.specs.Reals.{Format, bias, exponent_of, is_finite, significand, above, below, nearest, is_decimal}
 use Rattle.laws.specs.Nearest.{nearest_scaled, nearest_none}
@@ -46,7 +47,7 @@ is_decimal_lem f bits wide = go (ltb (exponent_of f bits) (bias f + 40)) refl
         let large : 2 ^ f.fraction * 2 ^ (bias f + 40) ≤ significand f bits * 2 ^ max 1 x =
         mul-le-mul (high f bits (omega arith)) (pow-le-pow_right {n = 2} (lit< tt) (omega arith)) in
         let most : 2 ^ (f.fraction + (bias f + 40)) ≤ significand f bits * 2 ^ max 1 x = omega (arith, large, pow-add 2 f.fraction (bias f + 40)) in
-        rw (e, limit f, le-ltb (significand f bits * 2 ^ max 1 x) (2 ^ (f.fraction + (bias f + 40))) most) (and_false (is_finite f bits))
+        rw (e, limit f, le-ltb (significand f bits * 2 ^ max 1 x) (2 ^ (f.fraction + (bias f + 40))) most) (and-false (is_finite f bits))
 
 -- a factor of 2 ^ x goes into the denominator
 pub nearest_shifted : (m x s : ℕ) → nearest (1_000 * (m * 2 ^ x)) (2 ^ (s + x)) ≡ nearest (1_000 * m) (2 ^ s)
@@ -55,7 +56,3 @@ nearest_shifted m x s = rw (← (mul_assoc 1_000 m (2 ^ x)), pow-add 2 s x) (nea
 -- from a shift of 64 on nothing is left
 pub shifted_out : (n s : ℕ) → n < 2 ^ 63 → 63 < s → nearest n (2 ^ s) ≡ 0
 shifted_out n s h g = let p : 2 ^ 64 ≤ 2 ^ s = pow-le-pow_right {n = 2} (lit< tt) {i = 64} (omega arith) in nearest_none n (2 ^ s) (omega arith)
-
--- the exponent of a magnitude that is written as a decimal
-pub exponent_most : (f : Format) (bits : ℕ) → bias f + 40 ≤ 2 ^ f.exponent - 1 → is_decimal f bits ≡ true → exponent_of f bits < bias f + 40
-exponent_most f bits wide e = ltb-true (exponent_of f bits) (bias f + 40) (sym (is_decimal_lem f bits wide) ∙ e)

@@ -3,10 +3,10 @@
 --     kept_front, kept_most : what is left is the front of the list, and no longer than it
 --     units_without : a unit goes exactly if both of its bytes go, so that of an odd count of bytes that are left the next stays as well
 -- Each by induction over the list; `units_without` takes two bytes at a time.
-use Rattle.std.specs.Prelude.{◌≡◌, refl, Bool, true, false, List, [], ◌∷◌, ◌++◌, ℕ, zero, suc, ◌+◌, ◌*◌, ◌-◌, ◌%◌, ◌≤◌, eqb, length, take, replicate}
+use Rattle.std.specs.Prelude.{◌≡◌, refl, Bool, true, false, List, [], ◌∷◌, ◌++◌, ℕ, zero}
+use Rattle.std.specs.Prelude.{suc, ◌+◌, ◌*◌, ◌-◌, ◌%◌, ◌≤◌, eqb, length, take, replicate, if◌then◌else◌}
 use Rattle.std.proofs.Common.{ap, sym, ◌∙◌, append-nil, append_assoc, arith, eq-eqb, ne_eqb, eqb-true, length-take}
 use Rattle.std.proofs.lemmas.Bool.{eqb-false}
-use Rattle.rules.specs.Bytes.{if◌then◌else◌}
 use Rattle.rules.specs.Names.{units}
 use Rattle.rules.specs.Strings.{unless_zero_last, without_zeros}
 

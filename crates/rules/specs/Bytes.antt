@@ -3,11 +3,6 @@ use Rattle.std.specs.Prelude.{Bool, true, false, ◌&&◌, List, [], ◌∷◌, 
 use Prim.Native.Char.{code}
 use Prim.Native.String.{String}
 
-infixr 10 if◌then◌else◌
-abbrev pub if◌then◌else◌ {ℓ} : {A : Type ℓ} → Bool → A → A → A
-if◌then◌else◌ true a b = a
-if◌then◌else◌ false a b = b
-
 -- the number that these bytes hold, little-endian
 abbrev pub number : List ℕ → ℕ
 number [] = 0

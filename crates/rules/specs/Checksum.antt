@@ -1,7 +1,6 @@
 -- CRC-32, the ISO 3309 one, bit by bit: reflected polynomial 0xEDB88320, start and final inversion all ones.
-use Rattle.std.specs.Prelude.{List, [], ◌∷◌, ℕ, zero, suc, ◌/◌, ◌%◌, eqb}
+use Rattle.std.specs.Prelude.{List, [], ◌∷◌, ℕ, zero, suc, ◌/◌, ◌%◌, eqb, if◌then◌else◌}
 use Rattle.std.specs.Int.Bits.{bit_xor}
-use Rattle.rules.specs.Bytes.{if◌then◌else◌}
 
 abbrev pub all_ones : ℕ
 all_ones = 0xffff_ffff

@@ -1,7 +1,7 @@
 -- The calendar, and the text of FileTime and SysTime.
-use Rattle.std.specs.Prelude.{Bool, true, false, ◌&&◌, ◌||◌, not, List, [], ◌∷◌, ◌++◌, ℕ, zero, suc, ◌+◌, ◌-◌, ◌/◌, ◌%◌, leb, ltb, eqb, get_or}
+use Rattle.std.specs.Prelude.{Bool, true, false, ◌&&◌, ◌||◌, not, List, [], ◌∷◌, ◌++◌, ℕ, zero, suc, ◌+◌, ◌-◌, ◌/◌, ◌%◌, leb, ltb, eqb, get_or, if◌then◌else◌}
 use Rattle.std.proofs.Math.Option.{Option, none, some}
-use Rattle.rules.specs.Bytes.{if◌then◌else◌, number, number_at, Text, ascii}
+use Rattle.rules.specs.Bytes.{number, number_at, Text, ascii}
 use Rattle.rules.specs.Numerals.{padded}
 
 -- a leap year: divisible by 4, and not by 100 unless by 400

@@ -1,6 +1,6 @@
 -- Decimal and hexadecimal numbers as text.
-use Rattle.std.specs.Prelude.{true, false, List, [], ◌∷◌, ◌++◌, ℕ, zero, suc, ◌+◌, ◌-◌, ◌^◌, ◌/◌, ◌%◌, ltb, length}
-use Rattle.rules.specs.Bytes.{if◌then◌else◌, number, Text, ascii}
+use Rattle.std.specs.Prelude.{true, false, List, [], ◌∷◌, ◌++◌, ℕ, zero, suc, ◌+◌, ◌-◌, ◌^◌, ◌/◌, ◌%◌, ltb, length, if◌then◌else◌}
+use Rattle.rules.specs.Bytes.{number, Text, ascii}
 
 -- a digit; hex digits are lower case unless said
 abbrev pub lower : ℕ → ℕ

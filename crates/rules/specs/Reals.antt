@@ -1,7 +1,7 @@
 -- Real numbers as decimals with three places (document 02, request Six). The bits of a real number are those of IEEE 754: from the top one bit for
 -- the sign, the exponent, the fraction. All is said in whole numbers: a magnitude is a fraction of two of them.
-use Rattle.std.specs.Prelude.{Bool, ◌&&◌, not, List, [], ◌++◌, ℕ, suc, ◌+◌, ◌*◌, ◌-◌, ◌/◌, ◌%◌, ◌^◌, max, ltb, eqb}
-use Rattle.rules.specs.Bytes.{if◌then◌else◌, number, Text, ascii}
+use Rattle.std.specs.Prelude.{Bool, ◌&&◌, not, List, [], ◌++◌, ℕ, suc, ◌+◌, ◌*◌, ◌-◌, ◌/◌, ◌%◌, ◌^◌, max, ltb, eqb, if◌then◌else◌}
+use Rattle.rules.specs.Bytes.{number, Text, ascii}
 use Rattle.rules.specs.Numerals.{decimal, padded, all_hex}
 
 -- how many bits the fraction and the exponent have

@@ -1,6 +1,6 @@
 -- Strings: UTF-16 to UTF-8, with the characters of XML escaped.
-use Rattle.std.specs.Prelude.{Bool, ◌&&◌, ◌||◌, List, [], ◌∷◌, ◌++◌, ℕ, ◌+◌, ◌*◌, ◌-◌, ◌/◌, ◌%◌, leb, ltb, eqb}
-use Rattle.rules.specs.Bytes.{if◌then◌else◌, Text, ascii}
+use Rattle.std.specs.Prelude.{Bool, ◌&&◌, ◌||◌, List, [], ◌∷◌, ◌++◌, ℕ, ◌+◌, ◌*◌, ◌-◌, ◌/◌, ◌%◌, leb, ltb, eqb, if◌then◌else◌}
+use Rattle.rules.specs.Bytes.{Text, ascii}
 
 abbrev pub is_high : ℕ → Bool
 is_high u = leb 0xd800 u && leb u 0xdbff

@@ -1,1 +1,2 @@
 // The definitions of document 01 stand in specs/. This crate has no code.
+#![tactic(auto)]

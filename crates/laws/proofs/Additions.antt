@@ -2,7 +2,7 @@
 --     additions_build : n ≤ length (records_of chunk) → n * entry_length f ≤ room → additions f k chunk room n ≡ value (take (n * entry_length f) index)
 --     none_left : add f k chunk index room ≡ refusal no_record
 -- The idea: the offsets of the listed records rise, so that beyond the last of the first n stands the next of the list, or none (`next_is`).
-use Rattle.std.specs.Prelude.{◌≡◌, refl, ℕ, zero, suc, ◌*◌, ◌^◌, ◌≤◌, ◌<◌, eqb, take}
+use Rattle.std.specs.Prelude.{◌≡◌, refl, ℕ, ◌+◌, zero, suc, ◌*◌, ◌^◌, ◌≤◌, ◌<◌, eqb, take, if◌then◌else◌}
 use Rattle.std.proofs.Math.Path.{ap}
 use Rattle.std.proofs.Common.{sym, ◌∙◌, subst, suc-mul, arith, take-append-drop, take_at, take-suc, length-take-le}
 use mathlib.Core.List.Memᴰ
@@ -11,12 +11,11 @@ use Rattle.std.proofs.Math.Option.{Option, none, some}
 use borrow.Author.Tests.{le-leb, lt-ltb, le-ltb, eq-eqb}
 use Rattle.std.proofs.Math.ListN.{length, drop, get_or}
 use Rattle.std.proofs.Math.Seq.{split_at}
-use Rattle.rules.specs.Bytes.{if◌then◌else◌}
 use Rattle.rules.specs.Answers.{Outcome, value, refused, refusal, no_record}
-use Rattle.rules.specs.Records.{record_number, records_of}
+use Rattle.rules.specs.Records.{size_at, record_number, records_of}
 use Rattle.rules.specs.Index.{Form, entry_length, entry_for, entry_bytes, index_of, build, last_offset, first_beyond, next_record, add}
 use Rattle.laws.specs.Listed.{whole_sized, at_index, Follow, more as follow, in_order}
-use Rattle.laws.specs.Indexed.{Whole, AllFit, index_of_length, entries_are, is_index_lem, Built, all_fit, built_is}
+use Rattle.laws.proofs.Indexed.{Whole, AllFit, index_of_length, entries_are, is_index_lem, Built, all_fit, built_is}
 
 -- n additions, from empty
 abbrev pub additions : Form → ℕ → List ℕ → ℕ → ℕ → Outcome (List ℕ)
@@ -30,20 +29,20 @@ last_of s (x ∷ xs) = last_of x xs
 
 module _ (chunk : List ℕ) where
   last_high : {e : ℕ} (s : ℕ) (ss rest : List ℕ) → Follow chunk e (s ∷ ss ++ rest) → s ≤ last_of s ss
-  last_high s [] rest r = omega arith
-  last_high s (x ∷ xs) rest (follow g h (follow g₂ h₂ r)) =
+  last_high {e = e} s [] rest r = omega arith
+  last_high {e = e} s (x ∷ xs) rest (follow g h (follow g₂ h₂ r)) =
       let least = (whole_sized (length chunk) s (drop s chunk) h).least in
-      omega (arith, last_high x xs rest (follow g₂ h₂ r))
+      omega (arith, last_high {e = s + size_at chunk s} x xs rest (follow g₂ h₂ r))
 
   -- beyond the last of some listed records comes the first of the others
   beyond_last : {e : ℕ} (s : ℕ) (ss rest : List ℕ) → Follow chunk e (s ∷ ss ++ rest)
       → first_beyond (some (last_of s ss)) (s ∷ ss ++ rest) ≡ first_beyond none rest
-  beyond_last s [] [] r = rw (le-ltb s s (omega arith))
-  beyond_last s [] (t ∷ rest) (follow g h (follow g₂ h₂ r)) =
+  beyond_last {e = e} s [] [] r = rw (le-ltb s s (omega arith))
+  beyond_last {e = e} s [] (t ∷ rest) (follow g h (follow g₂ h₂ r)) =
       let least = (whole_sized (length chunk) s (drop s chunk) h).least in
       rw (le-ltb s s (omega arith), lt-ltb s t (omega arith))
-  beyond_last s (x ∷ xs) rest (follow g h r) =
-      rw (le-ltb (last_of x xs) s (last_high s (x ∷ xs) rest (follow g h r))) (beyond_last x xs rest r)
+  beyond_last {e = e} s (x ∷ xs) rest (follow g h r) =
+      rw (le-ltb (last_of x xs) s (last_high s (x ∷ xs) rest (follow g h r))) (beyond_last {e = s + size_at chunk s} x xs rest r)
 
 module _ (f : Form) (k : ℕ) (chunk : List ℕ) where
   index_append : (ss ts : List ℕ) → index_of f k chunk (ss ++ ts) ≡ index_of f k chunk ss ++ index_of f k chunk ts
