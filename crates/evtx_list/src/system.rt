@@ -1,74 +1,122 @@
 // What the programs ask of the system beside the reads of an input and the writes of a listing: their arguments, files by their names, lines on
 // standard output, and what they say of themselves.
 ghost use Rattle.std.specs.Prelude.{◌≡◌};
-ghost use Rattle.io.specs.Counts.{IsPrefixLen};
+ghost use Rattle.std.specs.Io.{ReadsAtMost};
 ghost use Rattle.evtx_list.specs.Inputs.{opened_at};
 
 use arguments::Program;
-use libc::{STDERR_FILENO, STDIN_FILENO, STDOUT_FILENO};
+use std::env::{Env, FillError};
+use std::fs::File;
+use std::io;
+use std::io::{Error, ErrorKind, IsTerminal, Read, Stderr, Stdout, Write};
+use std::os::fd::AsRawFd;
+use std::process::ExitCode;
+
+// Standard output, and whether it is a pipe that nobody reads any more, as the last write that failed said.
+#[derive(Drop)]
+pub(crate) struct Output {
+    to: Stdout,
+    unread: bool,
+}
+
+impl Write for Output {
+    fn write(&mut self, buf: &[u8]) -> io::Result<usize> {
+        match self.to.write(buf) {
+            Ok(count) => Ok(count),
+            Err(reason) => {
+                self.unread = reason.kind() == ErrorKind::BrokenPipe;
+                Err(reason)
+            }
+        }
+    }
+
+    fn flush(&mut self) -> io::Result<()> {
+        self.to.flush()
+    }
+}
+
+// Standard output and standard error.
+pub(crate) type Console = reads::Console<Output, Stderr>;
 
 // An input that can be read, by its descriptor; or it cannot, which was told.
-#[derive(Drop)]
+#[derive(Clone, Copy)]
 pub(crate) enum Opened {
     At { input: u64 },
     Not,
 }
 
-// How many arguments there are, the program's own name among them.
-pub(crate) fn argument_count() -> usize {
-    os::arg_count()
+pub(crate) fn console(rt: &HostRuntime) -> Console {
+    Console {
+        output: Output {
+            to: rt.stdout(),
+            unread: false,
+        },
+        errors: rt.stderr(),
+    }
 }
 
-// Puts an argument at the front of the memory and answers its length; 0 where it does not fit, and then the memory has its first bytes.
-pub(crate) fn argument(i: usize, memory: &mut [u8]) -> usize
-    ensures { IsPrefixLen result memory.new }
+// The status of a program: where nobody reads its pipe any more, the one that a shell gives to a program that the signal of it ended, which the
+// start of a program turns off; else 0.
+pub(crate) fn status(console: Console) -> ExitCode {
+    let reads::Console { output, errors: _ } = console;
+    if output.unread {
+        ExitCode::from(141)
+    } else {
+        ExitCode::SUCCESS
+    }
+}
+
+// How many arguments there are, the program's own name among them. Each is asked for with room for no byte.
+pub(crate) fn argument_count(rt: &HostRuntime) -> usize {
+    let mut none = [0u8; 0];
+    for i in 0..usize::MAX {
+        if let Err(FillError::NotPresent) = rt.arg(i, &mut none) {
+            return i;
+        }
+    }
+    usize::MAX
+}
+
+// Puts an argument at the front of the memory and answers its length. Where it does not fit, the memory has its first bytes.
+pub(crate) fn argument(rt: &HostRuntime, i: usize, memory: &mut [u8]) -> Result<usize, FillError>
+    ensures { ReadsAtMost result memory.new }
 {
-    os::arg(i, memory)
+    rt.arg(i, memory)
 }
 
-// Whether the argument that was asked for last does not fit in the memory.
-pub(crate) fn is_too_long() -> bool {
-    os::errno() == libc::ENAMETOOLONG
+// The system's number for what is wrong with an argument.
+fn number_of(refusal: FillError) -> i32 {
+    match refusal {
+        // EINVAL
+        FillError::NotPresent => 22,
+        // ENAMETOOLONG
+        FillError::TooLong => 36,
+    }
+}
+
+// Says that an argument is not whole in the memory.
+pub(crate) fn not_whole(program: Program, console: &mut Console, refusal: FillError) {
+    let reason = Error::from_raw_os_error(number_of(refusal));
+    tell(program, console, b"an argument", &reason);
+}
+
+// The program's name as it stands before what is said on standard error.
+pub(crate) fn name_of(program: Program) -> &'static [u8] {
+    match program {
+        Program::List => b"evtx_list: ",
+        Program::Carve => b"evtx_carve: ",
+        Program::Index => b"evtx_index: ",
+    }
 }
 
 // Says on standard error what the system gave as the reason that something failed, after the program's name.
-pub(crate) fn tell(program: Program, what: &[u8]) {
-    match program {
-        Program::List => {
-            io::write_all(STDERR_FILENO, b"evtx_list: ");
-        }
-        Program::Carve => {
-            io::write_all(STDERR_FILENO, b"evtx_carve: ");
-        }
-        Program::Index => {
-            io::write_all(STDERR_FILENO, b"evtx_index: ");
-        }
-    }
-    os::fail(what);
-}
-
-// Whether the argument that was asked for last is whole in the memory. Where it is not, that is told.
-pub(crate) fn is_whole(program: Program) -> bool {
-    if os::errno() != 0 {
-        tell(program, b"an argument");
-        return false;
-    }
-    true
+pub(crate) fn tell(program: Program, console: &mut Console, what: &[u8], reason: &Error) {
+    reads::tell(&mut console.errors, name_of(program), what, reason);
 }
 
 // Whether someone would have to type a log.
-pub(crate) fn is_terminal() -> bool {
-    libc::isatty(STDIN_FILENO) == 1
-}
-
-// Whether there is a descriptor, and it can be read, which is asked by a read of no bytes: a directory, and an input that is closed, are no
-// empty log.
-fn can_read(descriptor: i32) -> bool {
-    let mut none = [0u8; 0];
-    if descriptor < 0 {
-        return false;
-    }
-    libc::read(descriptor, &mut none) == 0
+pub(crate) fn is_terminal(rt: &HostRuntime) -> bool {
+    rt.stdin().is_terminal()
 }
 
 fn opened_at(descriptor: i32) -> Opened
@@ -81,115 +129,117 @@ fn opened_at(descriptor: i32) -> Opened
     Opened::At { input }
 }
 
-// The input with a descriptor. Where it cannot be read, that is told.
-fn input_of(program: Program, descriptor: i32, name: &[u8]) -> Opened {
-    if !can_read(descriptor) {
-        tell(program, name);
-        return Opened::Not;
-    }
-    opened_at(descriptor)
-}
-
-pub(crate) fn standard_input(program: Program, name: &[u8]) -> Opened {
-    input_of(program, STDIN_FILENO, name)
-}
-
-// Opens a file to be read.
-pub(crate) fn open(program: Program, name: &[u8]) -> Opened {
-    let descriptor = os::open_read(name);
-    match input_of(program, descriptor, name) {
-        Opened::At { input } => Opened::At { input },
-        Opened::Not => {
-            libc::close(descriptor);
+// Whether an input can be read, and by which descriptor. That is asked by a read of no bytes: a directory, and an input that is closed, are no empty
+// log. Where it cannot be read, that is told.
+pub(crate) fn input_of<R: Read + AsRawFd>(
+    program: Program,
+    source: &mut R,
+    console: &mut Console,
+    name: &[u8],
+) -> Opened {
+    let mut none = [0u8; 0];
+    match source.read(&mut none) {
+        Ok(_) => opened_at(source.as_raw_fd()),
+        Err(reason) => {
+            tell(program, console, name, &reason);
             Opened::Not
         }
     }
 }
 
-// Closes a file that was opened.
-pub(crate) fn close(opened: Opened) {
-    match opened {
-        Opened::Not => (),
-        Opened::At { input } => {
-            libc::close(reads::descriptor(input));
+// Opens a file by its name. A name that is no text the library cannot hand to the system: it is refused with EILSEQ.
+fn open_named(rt: &HostRuntime, name: &[u8]) -> io::Result<File> {
+    match std::str::from_utf8(name) {
+        Ok(path) => File::open(rt, path),
+        Err(_) => Err(Error::from_raw_os_error(84)),
+    }
+}
+
+// Opens a file to be read. Where that fails, it is told.
+pub(crate) fn open(
+    rt: &HostRuntime,
+    program: Program,
+    console: &mut Console,
+    name: &[u8],
+) -> Option<File> {
+    match open_named(rt, name) {
+        Ok(file) => Some(file),
+        Err(reason) => {
+            tell(program, console, name, &reason);
+            None
         }
     }
+}
+
+// Writes to standard error. Where that fails, nobody can be told.
+fn complain(console: &mut Console, text: &[u8]) {
+    let _ = console.errors.write_all(text);
 }
 
 // Says on standard error that an input is longer than a stream may be.
-pub(crate) fn too_long(name: &[u8]) {
-    io::write_all(STDERR_FILENO, b"evtx_carve: ");
-    io::write_all(STDERR_FILENO, name);
-    io::write_all(STDERR_FILENO, b": longer than 1,099,511,627,776 bytes\n");
+pub(crate) fn too_long(console: &mut Console, name: &[u8]) {
+    complain(console, b"evtx_carve: ");
+    complain(console, name);
+    complain(console, b": longer than 1,099,511,627,776 bytes\n");
 }
 
 // Says on standard error that a chunk of an input has no index, with the number of the refusal.
-pub(crate) fn no_index(name: &[u8], k: u64, number: u32) {
+pub(crate) fn no_index(console: &mut Console, name: &[u8], k: u64, number: u32) {
     let mut memory = [0u8; 64];
     let end = line::index_line(&mut memory, 0, k, number);
-    io::write_all(STDERR_FILENO, b"evtx_index: ");
-    io::write_all(STDERR_FILENO, name);
-    io::write_all(STDERR_FILENO, b": ");
-    io::write_all(STDERR_FILENO, &memory[..end]);
+    complain(console, b"evtx_index: ");
+    complain(console, name);
+    complain(console, b": ");
+    complain(console, &memory[..end]);
 }
 
-// Writes lines to standard output, and answers whether that was done. Where it was not, that is told.
-pub(crate) fn say(program: Program, text: &[u8]) -> bool {
-    let done = io::write_all(STDOUT_FILENO, text);
-    if !done {
-        tell(program, b"standard output");
+// Writes lines to standard output, and answers whether that was done. Where it was not, that is told, but not that nobody reads a pipe any more.
+pub(crate) fn say(program: Program, console: &mut Console, text: &[u8]) -> bool {
+    match console.output.write_all(text) {
+        Ok(()) => true,
+        Err(reason) => {
+            if reason.kind() != ErrorKind::BrokenPipe {
+                tell(program, console, b"standard output", &reason);
+            }
+            false
+        }
     }
-    done
 }
 
 // The line above the listing of one file among several.
-pub(crate) fn head(program: Program, name: &[u8]) -> bool {
-    if !say(program, name) {
+pub(crate) fn head(program: Program, console: &mut Console, name: &[u8]) -> bool {
+    if !say(program, console, name) {
         return false;
     }
-    say(program, b":\n")
+    say(program, console, b":\n")
 }
 
-pub(crate) fn usage(program: Program) {
+pub(crate) fn usage(program: Program, console: &mut Console) {
     match program {
-        Program::List => {
-            io::write_all(
-                STDERR_FILENO,
-                b"usage: evtx_list [--help | --version | FILE..]\n",
-            );
-        }
-        Program::Carve => {
-            io::write_all(
-                STDERR_FILENO,
-                b"usage: evtx_carve [--help | --version | FILE..]\n",
-            );
-        }
-        Program::Index => {
-            io::write_all(
-                STDERR_FILENO,
-                b"usage: evtx_index [--help | --version | [NUMBER] [FILE..]]\n",
-            );
-        }
+        Program::List => complain(console, b"usage: evtx_list [--help | --version | FILE..]\n"),
+        Program::Carve => complain(
+            console,
+            b"usage: evtx_carve [--help | --version | FILE..]\n",
+        ),
+        Program::Index => complain(
+            console,
+            b"usage: evtx_index [--help | --version | [NUMBER] [FILE..]]\n",
+        ),
     }
 }
 
-pub(crate) fn version(program: Program) {
+pub(crate) fn version(program: Program, console: &mut Console) {
     match program {
-        Program::List => {
-            say(program, b"evtx_list 0.6.0\n");
-        }
-        Program::Carve => {
-            say(program, b"evtx_carve 0.6.0\n");
-        }
-        Program::Index => {
-            say(program, b"evtx_index 0.6.0\n");
-        }
-    }
+        Program::List => say(program, console, b"evtx_list 0.6.0\n"),
+        Program::Carve => say(program, console, b"evtx_carve 0.6.0\n"),
+        Program::Index => say(program, console, b"evtx_index 0.6.0\n"),
+    };
 }
 
-fn help_of_list(program: Program) {
+fn help_of_list(program: Program, console: &mut Console) {
     say(
         program,
+        console,
         b"\
 usage: evtx_list [--help | --version | FILE..]
 
@@ -208,9 +258,10 @@ evtx_list(1) says what the numbers mean.
     );
 }
 
-fn help_of_carve(program: Program) {
+fn help_of_carve(program: Program, console: &mut Console) {
     say(
         program,
+        console,
         b"\
 usage: evtx_carve [--help | --version | FILE..]
 
@@ -230,9 +281,10 @@ evtx_carve(1) says what a whole record is.
     );
 }
 
-fn help_of_index(program: Program) {
+fn help_of_index(program: Program, console: &mut Console) {
     say(
         program,
+        console,
         b"\
 usage: evtx_index [--help | --version | [NUMBER] [FILE..]]
 
@@ -253,10 +305,10 @@ what the numbers mean.
     );
 }
 
-pub(crate) fn help(program: Program) {
+pub(crate) fn help(program: Program, console: &mut Console) {
     match program {
-        Program::List => help_of_list(program),
-        Program::Carve => help_of_carve(program),
-        Program::Index => help_of_index(program),
+        Program::List => help_of_list(program, console),
+        Program::Carve => help_of_carve(program, console),
+        Program::Index => help_of_index(program, console),
     }
 }

@@ -2,8 +2,7 @@
 --     Event : a read or a write
 --     after : the streams after some events
 --     took_all : whether every write was done, by the streams
-use Rattle.std.specs.Prelude.{Bool, List, [], ◌∷◌, ℕ, ◌+◌, eqb, replicate, get_or, set}
-use Rattle.rules.specs.Bytes.{if◌then◌else◌}
+use Rattle.std.specs.Prelude.{Bool, List, [], ◌∷◌, ℕ, ◌+◌, eqb, replicate, get_or, set, if◌then◌else◌}
 use Rattle.fletcher.specs.Sums.{with_number, summed}
 
 -- What is asked of the operating system: a read of the input with a descriptor, with room for n bytes, and the bytes that were taken from it;

@@ -1,15 +1,17 @@
 // The reads and the writes of a listing. No other file of the listing has bytes read from an input, so that what no contract can say is said here:
 // that a read takes the next bytes of its input, and that a write hands its bytes on.
 //
-// A listing has five numbers for its streams: a checksum of the bytes that were taken from reads, each with the room it had and the descriptor
-// it was made of, and one of those that were handed to writes, each with what it answered, of two sums each; and 1 if some write was not done,
-// else 0. So no read and no write can go unsaid, nor an answer be taken for another, nor one input for another. No other file stores into them.
+// A listing has five numbers for its streams: a checksum of the bytes that were taken from reads, each with the room it had and the number of the
+// input it was made of, and one of those that were handed to writes, each with what it answered, of two sums each; and 1 if some write was not
+// done, else 0. So no read and no write can go unsaid, nor an answer be taken for another, nor one input for another. No other file stores into
+// them.
 ghost use Rattle.std.specs.Prelude.{◌≡◌, ◌+◌, ◌≤◌, ◌<◌, length, take};
-ghost use Rattle.io.specs.Counts.{IsPrefixLen};
+ghost use Rattle.reads.specs.Counts.{IsPrefixLen};
 ghost use Rattle.input.specs.Streams.{nothing, summed_at, mark, noted, after_read, after_write, took_all};
 
 use fletcher::Sums;
-use libc::STDOUT_FILENO;
+use reads::Console;
+use std::io::{ErrorKind, Read, Write};
 
 // The numbers before anything is read or written.
 pub(crate) fn untouched() -> [u64; 5]
@@ -38,13 +40,20 @@ fn add(numbers: &mut [u64], at: usize, bytes: &[u8], last: u64)
 }
 
 // Fills the memory from an input, as far as there is any, and answers how many bytes then stand at its front.
-pub(crate) fn read_in(streams: &mut [u64], memory: &mut [u8], input: u64, name: &[u8]) -> usize
+pub(crate) fn read_in<R: Read, E: Write>(
+    streams: &mut [u64],
+    memory: &mut [u8],
+    source: &mut R,
+    errors: &mut E,
+    input: u64,
+    name: &[u8],
+) -> usize
     requires { length streams.old ≡ 5 }
     ensures prefix_len { IsPrefixLen result memory.new }
     ensures streams_after { streams.new ≡ after_read streams.old input (length memory.old) (take result memory.new) }
 {
     let room = memory.len() as u64;
-    let count = reads::fill(memory, input, b"evtx_list: ", name);
+    let count = reads::fill(memory, source, errors, b"evtx_list: ", name);
     add(streams, 0, &memory[..count], room);
     add(streams, 0, b"", input);
     count
@@ -68,16 +77,35 @@ fn note(numbers: &mut [u64], done: bool)
     numbers[4] = 1;
 }
 
-// Writes to standard output, and answers whether all bytes were taken. A program here has no exit status, so that a failure is told on
-// standard error.
-pub(crate) fn write_out(streams: &mut [u64], bytes: &[u8]) -> bool
+// Hands bytes to standard output, and answers whether all were taken. A failure is told on standard error, but not that nobody reads a pipe any
+// more: there the program says nothing, as one that the system ends for it.
+fn hand_over<W: Write, E: Write>(bytes: &[u8], console: &mut Console<W, E>) -> bool {
+    match console.output.write_all(bytes) {
+        Ok(()) => true,
+        Err(reason) => {
+            if reason.kind() != ErrorKind::BrokenPipe {
+                reads::tell(
+                    &mut console.errors,
+                    b"evtx_list: ",
+                    b"standard output",
+                    &reason,
+                );
+            }
+            false
+        }
+    }
+}
+
+// Writes to standard output, and answers whether all bytes were taken.
+pub(crate) fn write_out<W: Write, E: Write>(
+    streams: &mut [u64],
+    bytes: &[u8],
+    console: &mut Console<W, E>,
+) -> bool
     requires { length streams.old ≡ 5 }
     ensures { streams.new ≡ after_write streams.old bytes.now result }
 {
-    let done = io::write_all(STDOUT_FILENO, bytes);
-    if !done {
-        os::fail(b"evtx_list: standard output");
-    }
+    let done = hand_over(bytes, console);
     add(streams, 2, bytes, marked(done));
     note(streams, done);
     done

@@ -1,6 +1,5 @@
 -- What the system knows an input by.
-use Rattle.std.specs.Prelude.{ℕ, ltb, ℤ, pos, negsuc}
-use Rattle.rules.specs.Bytes.{if◌then◌else◌}
+use Rattle.std.specs.Prelude.{ℕ, ltb, ℤ, pos, negsuc, if◌then◌else◌}
 
 -- the system's descriptor of an input; where the number is none of its kind, -1, which no file has
 abbrev pub descriptor_of : ℕ → ℤ

@@ -1,32 +1,30 @@
 // Writes the text of each value of a list, for comparison with a stored one. Standard input holds the values, each as its type (1
 // byte), its size (2 bytes, little-endian) and its bytes. For each a line is written: the text, or `refused 11` and the cause.
-use libc::{STDIN_FILENO, STDOUT_FILENO};
+#![tactic(auto)]
+
+use std::io::{Read, Write};
 use value::Put;
 
 // The text of one value, or its refusal. A value of 65,535 bytes has a text below 262,144, so out is never too small.
-fn show(kind: u8, src: &[u8], out: &mut [u8]) {
-    match value::put_value(out, 0, kind, src) {
+fn show<W: Write>(kind: u8, src: &[u8], out: &mut [u8], output: &mut W) {
+    let _ = match value::put_value(out, 0, kind, src) {
         Put::Done { at } => {
             if at <= out.len() {
-                io::write_all(STDOUT_FILENO, &out[..at]);
+                output.write_all(&out[..at])
+            } else {
+                Ok(())
             }
         }
-        Put::WrongType => {
-            io::write_all(STDOUT_FILENO, b"refused 11 type");
-        }
-        Put::WrongSize => {
-            io::write_all(STDOUT_FILENO, b"refused 11 size");
-        }
-        Put::WrongContent => {
-            io::write_all(STDOUT_FILENO, b"refused 11 content");
-        }
-    }
+        Put::WrongType => output.write_all(b"refused 11 type"),
+        Put::WrongSize => output.write_all(b"refused 11 size"),
+        Put::WrongContent => output.write_all(b"refused 11 content"),
+    };
 }
 
 // Reads one value, writes its line, and answers whether there was one.
-fn next(buf: &mut [u8], out: &mut [u8]) -> bool {
+fn next<R: Read, W: Write>(buf: &mut [u8], out: &mut [u8], input: &mut R, output: &mut W) -> bool {
     let mut head = [0u8; 3];
-    if io::read_full(STDIN_FILENO, &mut head) < 3 {
+    if input.read_exact(&mut head).is_err() {
         return false;
     }
     let kind = head[0];
@@ -34,26 +32,24 @@ fn next(buf: &mut [u8], out: &mut [u8]) -> bool {
     if buf.len() < size {
         return false;
     }
-    if io::read_full(STDIN_FILENO, &mut buf[..size]) < size {
+    if input.read_exact(&mut buf[..size]).is_err() {
         return false;
     }
-    show(kind, &buf[..size], out);
-    io::write_all(STDOUT_FILENO, b"\n")
+    show(kind, &buf[..size], out, output);
+    output.write_all(b"\n").is_ok()
 }
 
-// A proved loop has to end, and nothing says that the input does: so it counts down from a number that no run uses up.
-fn run(buf: &mut [u8], out: &mut [u8]) {
-    let mut turns = u64::MAX;
-    while 0 < turns {
-        if !next(buf, out) {
+// A proved loop has to end, and nothing says that the input does: so it counts to a number that no run uses up.
+fn run<R: Read, W: Write>(buf: &mut [u8], out: &mut [u8], input: &mut R, output: &mut W) {
+    for _ in 0..u64::MAX {
+        if !next(buf, out, input, output) {
             return;
         }
-        turns -= 1;
     }
 }
 
-fn main() {
+fn main(rt: HostRuntime) {
     let mut buf = [0u8; 65536];
     let mut out = [0u8; 262144];
-    run(&mut buf, &mut out);
+    run(&mut buf, &mut out, &mut rt.stdin(), &mut rt.stdout());
 }

@@ -12,9 +12,7 @@ use mir.Val.{to_z, of_z}
 use mir.ValLaws.{to_z-Fits, of_z_fits, to_z-of_z}
 use Rattle.evtx_list.specs.declared.system.Opened.TheVariants.{At, Not}
 use Rattle.evtx_list.specs.Inputs.{opened_at}
-use borrow.Author.Rules.{rules}
-use Rattle.evtx_list.proofs.system.opened_at.Statement.{statement}
-use Rattle.evtx_list.proofs.system.opened_at.Tie as tie
+use Rattle.evtx_list.proofs.system.opened_at.Goals as goal
 
 not_below : (z : ℤ) → lt_z z (pos 0) ≡ false → T (non_neg z)
 not_below (pos n) e = tt
@@ -28,22 +26,19 @@ one_above : (z : ℤ) → lt_z z (pos 0) ≡ false → At (nat_abs z) ≡ opened
 one_above (pos n) e = refl
 one_above (negsuc n) e = absurd (subst T e tt)
 
-cast-input : tie.Need-overflow-cast-input
-cast-input c =
-    let s = c.before in let d = s.args.descriptor in
-    let small = to_z-Fits w32 (of_z w32 d) (of_z_fits w32 d s.ranges.descriptor) in
-    (not_below (to_z w32 (of_z w32 d)) c.if1.false, record { fits = lt_of_le_of_lt (nat_abs-le (to_z w32 (of_z w32 d)) small.sfits) (lit< tt) })
+pub overflow_cast-input : goal.overflow_cast-input
+overflow_cast-input c =
+    let d = c.args.descriptor in
+    let small = to_z-Fits w32 (of_z w32 d) (of_z_fits w32 d c.ranges.descriptor) in
+    (not_below (to_z w32 (of_z w32 d)) c.if-descriptor-lt0.false, record { fits = lt_of_le_of_lt (nat_abs-le (to_z w32 (of_z w32 d)) small.sfits) (lit< tt) })
 
-returns : tie.Need-returns
+pub returns-then-descriptor-lt0 : goal.returns-then-descriptor-lt0
+returns-then-descriptor-lt0 c =
+    let d = c.args.descriptor in
+    none_below d (subst (λ (z : ℤ). lt_z z (pos 0) ≡ true) (to_z-of_z w32 d c.ranges.descriptor) c.if-descriptor-lt0.true)
+
+pub returns : goal.returns
 returns c =
-    let s = c.before in let d = s.args.descriptor in
-    none_below d (subst (λ (z : ℤ). lt_z z (pos 0) ≡ true) (to_z-of_z w32 d s.ranges.descriptor) c.if1.true)
-
-returns-2 : tie.Need-returns-2
-returns-2 c =
-    let s = c.before in let d = s.args.descriptor in
+    let d = c.args.descriptor in
     let z = to_z w32 (of_z w32 d) in
-    subst (λ (y : ℤ). At (nat_abs z) ≡ opened_at y) (to_z-of_z w32 d s.ranges.descriptor) (one_above z c.if1.false)
-
-pub opened-at-spec : {M : Type 1} → statement M
-opened-at-spec = tie.close (tie.spec returns cast-input returns-2)
+    subst (λ (y : ℤ). At (nat_abs z) ≡ opened_at y) (to_z-of_z w32 d c.ranges.descriptor) (one_above z c.if-descriptor-lt0.false)
