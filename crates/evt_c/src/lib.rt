@@ -1,4 +1,6 @@
 // The C interface, of EVT logs: each call under its C name, with its answer as a struct of numbers. include/evtx.h declares it.
+#![tactic(auto)]
+
 ghost use Rattle.std.specs.Prelude.{◌≡◌, length};
 ghost use Rattle.rules.specs.Answers.{Answered};
 ghost use Rattle.rules.specs.Evt.{evt_header, evt_text, evt_fields};
@@ -8,7 +10,7 @@ ghost use Rattle.evt_c.specs.Answers.{seen_in};
 use records_c::{EvtxAnswer, EvtxText};
 
 #[repr(C)]
-#[derive(Drop)]
+#[derive(Clone, Copy)]
 pub struct EvtxEvtSeen {
     pub number: u32,
     pub length: u64,

@@ -1,5 +1,7 @@
 // The C interface, of texts: the text of a record, and an index, whose entries say whether there is one. The other calls are in records_c and
 // lists_c; the archive has all. include/evtx.h declares it.
+#![tactic(auto)]
+
 ghost use Rattle.std.specs.Prelude.{◌≡◌, length};
 ghost use Rattle.rules.specs.Answers.{Answered};
 ghost use Rattle.rules.specs.RecordText.{text_of};

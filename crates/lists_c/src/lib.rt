@@ -1,5 +1,7 @@
 // The C interface, of lists: the searches, the calls on a stream, and what is asked of an index. Each call has its C name, and its answer is a struct of
 // numbers. include/evtx.h declares it.
+#![tactic(auto)]
+
 ghost use Rattle.std.specs.Prelude.{◌≡◌, ◌/◌, length};
 ghost use Rattle.rules.specs.Answers.{Answered};
 ghost use Rattle.rules.specs.Records.{search_chunk, search_bytes};
@@ -11,7 +13,7 @@ ghost use Rattle.lists_c.specs.Answers.{entry_in};
 use records_c::EvtxAnswer;
 
 #[repr(C)]
-#[derive(Drop)]
+#[derive(Clone, Copy)]
 pub struct EvtxEntry {
     pub number: u32,
     pub position: u64,

@@ -1,6 +1,5 @@
 -- Where the first 2a stands.
-use Rattle.std.specs.Prelude.{List, [], ◌∷◌, ℕ, suc, eqb}
-use Rattle.rules.specs.Bytes.{if◌then◌else◌}
+use Rattle.std.specs.Prelude.{List, [], ◌∷◌, ℕ, suc, eqb, if◌then◌else◌}
 
 -- how many bytes stand before the first 2a; all of them where there is none
 unfoldable pub before_star : List ℕ → ℕ

@@ -1,4 +1,6 @@
 // A plain loop that only looks for the first 2a. The benchmark of the search measures it beside the same loop in C (bench/search.c).
+#![tactic(auto)]
+
 ghost use Rattle.std.specs.Prelude.{◌≡◌};
 ghost use Rattle.plain_c.specs.First.{before_star};
 

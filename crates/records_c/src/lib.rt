@@ -1,4 +1,7 @@
 // The C interface, of headers and single records: each call under its C name, with its answer as a struct of numbers. include/evtx.h declares it.
+// The crates of the other calls use its structs, so it is a library: what C calls are the exports of records_for_c, each of which is one of these calls.
+#![tactic(auto)]
+
 ghost use Rattle.std.specs.Prelude.{◌≡◌};
 ghost use Rattle.rules.specs.Headers.{check_file_header, check_chunk, free_space_of};
 ghost use Rattle.rules.specs.Records.{next_in_chunk, next_in_bytes, size_in_chunk, size_in_bytes, stretch_of, fields_of};
@@ -6,28 +9,28 @@ ghost use Rattle.record.specs.Asked.{next_meaning, size_meaning};
 ghost use Rattle.records_c.specs.Answers.{checked, size_in, found_of, stretch_in, fields_in};
 
 #[repr(C)]
-#[derive(Drop)]
+#[derive(Clone, Copy)]
 pub struct EvtxAnswer {
     pub number: u32,
     pub length: u64,
 }
 
 #[repr(C)]
-#[derive(Drop)]
+#[derive(Clone, Copy)]
 pub struct EvtxText {
     pub number: u32,
     pub length: u64,
 }
 
 #[repr(C)]
-#[derive(Drop)]
+#[derive(Clone, Copy)]
 pub struct EvtxFound {
     pub number: u32,
     pub offset: u64,
 }
 
 #[repr(C)]
-#[derive(Drop)]
+#[derive(Clone, Copy)]
 pub struct EvtxStretch {
     pub number: u32,
     pub offset: u64,
@@ -35,7 +38,7 @@ pub struct EvtxStretch {
 }
 
 #[repr(C)]
-#[derive(Drop)]
+#[derive(Clone, Copy)]
 pub struct EvtxFields {
     pub number: u32,
     pub record_number: u64,
@@ -76,24 +79,21 @@ fn size_answer(size: record::Size) -> EvtxAnswer
 }
 
 // Checks a file header.
-#[unsafe(no_mangle)]
-pub extern "C" fn evtx_check_file_header(header: &[u8]) -> EvtxAnswer
+pub fn evtx_check_file_header(header: &[u8]) -> EvtxAnswer
     ensures { result ≡ checked (check_file_header header.now) }
 {
     answer_of(header::check_file_header(header))
 }
 
 // Checks a chunk.
-#[unsafe(no_mangle)]
-pub extern "C" fn evtx_check_chunk(chunk: &[u8]) -> EvtxAnswer
+pub fn evtx_check_chunk(chunk: &[u8]) -> EvtxAnswer
     ensures { result ≡ checked (check_chunk chunk.now) }
 {
     answer_of(header::check_chunk(chunk))
 }
 
 // Where a chunk says that its free space begins.
-#[unsafe(no_mangle)]
-pub extern "C" fn evtx_free_space_offset(chunk: &[u8]) -> EvtxFound
+pub fn evtx_free_space_offset(chunk: &[u8]) -> EvtxFound
     ensures { result ≡ found_of (free_space_of chunk.now) }
 {
     match header::free_space(chunk) {
@@ -103,40 +103,35 @@ pub extern "C" fn evtx_free_space_offset(chunk: &[u8]) -> EvtxFound
 }
 
 // The next record of a chunk.
-#[unsafe(no_mangle)]
-pub extern "C" fn evtx_next_in_chunk(chunk: &[u8], from: u64) -> EvtxFound
+pub fn evtx_next_in_chunk(chunk: &[u8], from: u64) -> EvtxFound
     ensures { result ≡ found_of (next_in_chunk chunk.now from) }
 {
     found_at(record::next_in_chunk(chunk, from as usize))
 }
 
 // The next record of loose bytes.
-#[unsafe(no_mangle)]
-pub extern "C" fn evtx_next_in_bytes(bytes: &[u8], from: u64) -> EvtxFound
+pub fn evtx_next_in_bytes(bytes: &[u8], from: u64) -> EvtxFound
     ensures { result ≡ found_of (next_in_bytes bytes.now from) }
 {
     found_at(record::next_in_bytes(bytes, from as usize))
 }
 
 // The size of a record of a chunk.
-#[unsafe(no_mangle)]
-pub extern "C" fn evtx_size_in_chunk(chunk: &[u8], offset: u64) -> EvtxAnswer
+pub fn evtx_size_in_chunk(chunk: &[u8], offset: u64) -> EvtxAnswer
     ensures { result ≡ size_in (size_in_chunk chunk.now offset) }
 {
     size_answer(record::size_in_chunk(chunk, offset as usize))
 }
 
 // The size of a record of loose bytes.
-#[unsafe(no_mangle)]
-pub extern "C" fn evtx_size_in_bytes(bytes: &[u8], offset: u64) -> EvtxAnswer
+pub fn evtx_size_in_bytes(bytes: &[u8], offset: u64) -> EvtxAnswer
     ensures { result ≡ size_in (size_in_bytes bytes.now offset) }
 {
     size_answer(record::size_in_bytes(bytes, offset as usize))
 }
 
 // Where a record's binary XML lies.
-#[unsafe(no_mangle)]
-pub extern "C" fn evtx_record_stretch(chunk: &[u8], offset: u64) -> EvtxStretch
+pub fn evtx_record_stretch(chunk: &[u8], offset: u64) -> EvtxStretch
     ensures { result ≡ stretch_in (stretch_of chunk.now offset) }
 {
     match record::record_stretch(chunk, offset as usize) {
@@ -154,8 +149,7 @@ pub extern "C" fn evtx_record_stretch(chunk: &[u8], offset: u64) -> EvtxStretch
 }
 
 // A record's number and written time.
-#[unsafe(no_mangle)]
-pub extern "C" fn evtx_record_fields(chunk: &[u8], offset: u64) -> EvtxFields
+pub fn evtx_record_fields(chunk: &[u8], offset: u64) -> EvtxFields
     ensures { result ≡ fields_in (fields_of chunk.now offset) }
 {
     match record::record_fields(chunk, offset as usize) {

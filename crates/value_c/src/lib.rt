@@ -1,4 +1,6 @@
 // The text of a value, for C: number, length, and the text at the front of the memory lent.
+#![tactic(auto)]
+
 ghost use Rattle.std.specs.Prelude.{length};
 ghost use Rattle.rules.specs.Answers.{Answered};
 ghost use Rattle.rules.specs.Values.{value_text};
@@ -8,7 +10,7 @@ use value::Put;
 
 // What a call answers: a number of document 01, and the length of the text.
 #[repr(C)]
-#[derive(Drop)]
+#[derive(Clone, Copy)]
 pub struct EvtxValue {
     pub number: u32,
     pub length: u64,

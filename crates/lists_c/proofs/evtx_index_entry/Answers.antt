@@ -1,0 +1,5 @@
+-- The answer is the struct that the library's answer means.
+use Rattle.lists_c.proofs.evtx_index_entry.Goals as goal
+
+pub returns : goal.returns
+returns c = rw c.entry_at.ensures at c.entry_answer.ensures

@@ -1,0 +1,5 @@
+-- The number is that of the check.
+use Rattle.records_c.proofs.evtx_check_file_header.Goals as goal
+
+pub returns : goal.returns
+returns c = rw c.check_file_header.ensures at c.answer_of.ensures

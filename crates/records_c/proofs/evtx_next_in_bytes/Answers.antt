@@ -1,0 +1,5 @@
+-- The answer is the struct that the library's answer means.
+use Rattle.records_c.proofs.evtx_next_in_bytes.Goals as goal
+
+pub returns : goal.returns
+returns c = rw c.next_in_bytes.ensures at c.found_at.ensures
