@@ -1,6 +1,6 @@
 -- What a word asks for, and the program that a name is of, from the answers of the tests in their order; and when two lists of bytes are
 -- the same.
-use mathlib.Core.Path.{◌≡◌, refl, ap, sym, ◌∙◌}
+use mathlib.Core.Path.{◌≡◌, refl, ap, sym}
 use mathlib.Core.Bool.{Bool, true, false}
 use mathlib.Core.List.{List, [], ◌∷◌}
 use Prim.Native.Nat.{ℕ, suc, ◌-◌, ◌≤◌, ◌<◌}
@@ -8,10 +8,9 @@ use native.Mathlib.Omega.{arith}
 use lib.Dec.{eqb}
 use lib.ListN.{length, take, drop, length-take, length-drop}
 use lib.Seq.{take_all}
-use Rattle.rules.specs.Bytes.{if◌then◌else◌, part, same, ascii}
+use Rattle.rules.specs.Bytes.{part, same, ascii}
 use Rattle.laws.specs.Tests.{both}
 use Rattle.arguments.specs.declared.Program.TheVariants.{List as Lists, Carve, Index}
-use Rattle.arguments.specs.declared.Word.{Word}
 use Rattle.arguments.specs.declared.Word.TheVariants.{Input, Help, Version, Unknown, File}
 use Rattle.arguments.specs.Words.{asked, is_named, called}
 

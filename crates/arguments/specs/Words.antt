@@ -1,6 +1,6 @@
 -- What the words of a command line ask for.
-use Rattle.std.specs.Prelude.{Bool, ◌||◌, List, ℕ, ◌-◌, length, take}
-use Rattle.rules.specs.Bytes.{if◌then◌else◌, part, same, ascii}
+use Rattle.std.specs.Prelude.{Bool, ◌||◌, List, ℕ, ◌-◌, length, take, if◌then◌else◌}
+use Rattle.rules.specs.Bytes.{part, same, ascii}
 use Rattle.arguments.specs.declared.Program.{Program}
 use Rattle.arguments.specs.declared.Program.TheVariants.{List as Lists, Carve, Index}
 use Rattle.arguments.specs.declared.Word.{Word}

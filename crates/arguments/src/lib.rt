@@ -1,11 +1,13 @@
 // What the words of a command line ask for, as the programs here read them.
+#![tactic(auto)]
+
 ghost use Rattle.std.specs.Prelude.{◌≡◌, ◌≤◌};
 ghost use Rattle.rules.specs.Bytes.{same};
 ghost use Rattle.arguments.specs.Words.{asked, is_named, called as calledBy};
 ghost use Rattle.arguments.specs.Numbers.{is_digit, with_digit, number_in, number_meaning};
 
 // Standard input, the help, the version, something that no program here knows, or a file by its name.
-#[derive(Drop)]
+#[derive(Clone, Copy)]
 pub enum Word {
     Input,
     Help,
@@ -15,7 +17,7 @@ pub enum Word {
 }
 
 // The program that lists logs, the one that carves records out of any bytes, or the one that builds the indexes of logs.
-#[derive(Drop)]
+#[derive(Clone, Copy)]
 pub enum Program {
     List,
     Carve,
@@ -23,7 +25,7 @@ pub enum Program {
 }
 
 // A record number, or a word that is none.
-#[derive(Drop)]
+#[derive(Clone, Copy)]
 pub enum Number {
     Is { number: u64 },
     Not,

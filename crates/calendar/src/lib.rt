@@ -1,4 +1,6 @@
 // FileTime and SysTime as text, over one table of the days before each month.
+#![tactic(auto)]
+
 ghost use Rattle.std.specs.Prelude.{◌≡◌, [], ◌∷◌, ◌++◌, ◌+◌, ◌≤◌, ◌<◌, take, get_or};
 ghost use Rattle.output.specs.Output.{Wrote};
 ghost use Rattle.rules.specs.Numerals.{padded};
@@ -14,27 +16,27 @@ const DAYS: [[u64; 13]; 2] = [
 ];
 
 // What comes of a time: the place after its text, or a refusal since it is none.
-#[derive(Drop)]
+#[derive(Clone, Copy)]
 pub enum Time {
     Done { at: usize },
     Wrong,
 }
 
-#[derive(Drop)]
+#[derive(Clone, Copy)]
 struct Date {
     year: u64,
     month: u64,
     day: u64,
 }
 
-#[derive(Drop)]
+#[derive(Clone, Copy)]
 struct Clock {
     hour: u64,
     minute: u64,
     second: u64,
 }
 
-#[derive(Drop)]
+#[derive(Clone, Copy)]
 struct Year {
     years: u64,
     rest: u64,

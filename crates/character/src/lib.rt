@@ -1,7 +1,8 @@
 // A character as it is written: in UTF-8, with the characters of XML escaped.
-ghost use Rattle.std.specs.Prelude.{◌≡◌, [], ◌∷◌, ◌+◌, ◌/◌, ◌%◌, ◌<◌};
+#![tactic(auto)]
+
+ghost use Rattle.std.specs.Prelude.{◌≡◌, [], ◌∷◌, ◌+◌, ◌/◌, ◌%◌, ◌<◌, if◌then◌else◌};
 ghost use Rattle.output.specs.Output.{Wrote};
-ghost use Rattle.rules.specs.Bytes.{if◌then◌else◌};
 ghost use Rattle.rules.specs.Strings.{utf8, is_xml, shown};
 
 fn byte(c: u32) -> u8

@@ -72,7 +72,8 @@ over_number (suc n) (b ∷ s) h bytes c =
 module _ (s : List ℕ) (bytes : (j : ℕ) → get_or s j 0 < 256) (i : ℕ) where
   -- the first word of a stretch goes through by itself, and the rest from a state of zero
   word_out : (k n c : ℕ) → i + k + 4 + n ≤ length s
-      → crc_over c (take (4 + n) (drop (i + k) s)) ≡ bit_xor (crc_over 0 (take n (drop (i + (k + 4)) s))) (crc_bits (8 * n + 32) (bit_xor c (number_at (i + k) 4 s)))
+      → crc_over c (take (4 + n) (drop (i + k) s)) ≡ bit_xor (crc_over 0 (take n (drop (i + (k + 4)) s)))
+      (crc_bits (8 * n + 32) (bit_xor c (number_at (i + k) 4 s)))
   word_out k n c h =
       let r : List ℕ = take n (drop (i + (k + 4)) s) in
       let x = bit_xor c (number_at (i + k) 4 s) in

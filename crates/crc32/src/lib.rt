@@ -1,4 +1,6 @@
 // CRC-32 by a table: an update of a state by a part of the bytes, 16 bytes at a time where the part is long.
+#![tactic(auto)]
+
 ghost use Rattle.std.specs.Prelude.{◌≡◌, true, ◌%◌, length};
 ghost use Rattle.std.specs.Int.Bits.{bit_xor};
 ghost use Rattle.crc32.specs.Table.{right};

@@ -1,4 +1,6 @@
 // The digits of a number as text, once over the base and the count of digits.
+#![tactic(auto)]
+
 ghost use Rattle.std.specs.Prelude.{◌≡◌, [], ◌++◌, ◌/◌, ◌<◌};
 ghost use Rattle.output.specs.Output.{Wrote};
 ghost use Rattle.rules.specs.Bytes.{ascii};

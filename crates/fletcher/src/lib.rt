@@ -1,9 +1,11 @@
 // Fletcher's checksum over words of 64 bits: the sum of the words, and the sum of these sums after each word, both modulo 2^64. It depends on
 // each byte and on their order, and a word costs two additions, so that a listing can afford it for all that it reads and writes.
+#![tactic(auto)]
+
 ghost use Rattle.std.specs.Prelude.{◌≡◌};
 ghost use Rattle.fletcher.specs.Sums.{with_number, summed};
 
-#[derive(Drop)]
+#[derive(Clone, Copy)]
 pub struct Sums {
     pub first: u64,
     pub second: u64,

@@ -1,10 +1,10 @@
 -- What `put_sid` answers and leaves, against `sid_size` and `sid` of rules.
 --     sid_meaning : document 01's number and value for each answer
 --     PutSid fits o out at out' r : whether the size is that of a Sid, and the text of the content, or none, give the answer r and the memory out'
-use Rattle.std.specs.Prelude.{◌≡◌, Bool, true, false, List, ℕ, length}
+use Rattle.std.specs.Prelude.{◌≡◌, Bool, true, false, List, ℕ, length, if◌then◌else◌}
 use Rattle.std.proofs.Math.Option.{Option, none, some}
 use Rattle.output.specs.Output.{adv}
-use Rattle.rules.specs.Bytes.{if◌then◌else◌, Text}
+use Rattle.rules.specs.Bytes.{Text}
 use Rattle.rules.specs.Answers.{Outcome, value, refusal, wrong_value}
 use Rattle.calendar.specs.Times.{place_after, leaves}
 use Rattle.identifiers.specs.declared.sid.Sid.{Sid}

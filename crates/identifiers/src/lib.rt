@@ -1,4 +1,6 @@
 // GUIDs and security identifiers as text.
+#![tactic(auto)]
+
 mod guid;
 mod sid;
 

@@ -1,4 +1,6 @@
 // Integers of up to 8 bytes as text, decimal and hexadecimal, once over the width; and bytes as pairs of hex digits.
+#![tactic(auto)]
+
 ghost use Rattle.std.specs.Prelude.{◌≡◌, ◌+◌, ◌^◌, ◌≤◌, length, take};
 ghost use Rattle.output.specs.Output.{Wrote};
 ghost use Rattle.laws.specs.Tables.{tabled};

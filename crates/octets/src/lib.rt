@@ -1,5 +1,7 @@
 // Little-endian numbers from a slice, and comparison with known bytes. A byte that the slice does not have reads as 0, as the definition of
 // `number_at` has it, so that every function here answers for every offset.
+#![tactic(auto)]
+
 ghost use Rattle.std.specs.Prelude.{◌≡◌, ◌+◌, ◌≤◌, ◌<◌, min, length, get_or};
 ghost use Rattle.rules.specs.Bytes.{part, number_at, same};
 

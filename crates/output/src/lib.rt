@@ -1,5 +1,7 @@
 // Text into lent memory that may be too small: a byte is stored only where it fits, and the place counts on by one byte more than there is
 // room for. A run with an empty part of the memory, `&mut out[..0]`, only counts.
+#![tactic(auto)]
+
 ghost use Rattle.std.specs.Prelude.{◌≡◌, [], ◌∷◌, leb, length, replicate};
 ghost use Rattle.output.specs.Output.{Wrote, top as top_of, adv};
 

@@ -1,1 +1,2 @@
 // The laws of readings of a stretch stand in specs/. This crate has no code.
+#![tactic(auto)]

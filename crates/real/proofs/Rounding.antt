@@ -9,7 +9,7 @@ use native.Mathlib.Omega.{arith}
 use borrow.Author.Tests.{lt-ltb, le-ltb, ne_eqb}
 use lib.Dec.{eqb, lit<}
 use lib.Pow.{pow-lt, shr_le}
-use Rattle.rules.specs.Bytes.{if◌then◌else◌}
+use Rattle.std.specs.Prelude.{if◌then◌else◌}
 use Rattle.rules.specs.Reals.{real32, real64, fraction_of, exponent_of, significand, above, below, nearest, thousandths}
 use Rattle.laws.specs.Nearest.{nearest_scaled}
 use Rattle.laws.specs.Reals.{nearest_shifted}

@@ -1,6 +1,5 @@
 -- What the code names, in the words of the rules: the format of a real number, the form that is asked for, and thousandths of a significand.
-use Rattle.std.specs.Prelude.{Bool, true, false, ℕ, ◌+◌, ◌*◌, ◌^◌, max, eqb}
-use Rattle.rules.specs.Bytes.{if◌then◌else◌}
+use Rattle.std.specs.Prelude.{Bool, true, false, ℕ, ◌+◌, ◌*◌, ◌^◌, max, eqb, if◌then◌else◌}
 use Rattle.rules.specs.Reals.{Format, real32, real64, nearest, Reals as Forms, decimals, bits}
 use Rattle.real.specs.declared.Reals.{Reals}
 use Rattle.real.specs.declared.Reals.TheVariants.{Decimal, Bits}

@@ -1,12 +1,14 @@
 // Real numbers as decimals with three places, out of their bits; no instruction for real numbers is used. Real32 is widened to a significand of
 // 53 bits, so that one rounding serves both formats.
+#![tactic(auto)]
+
 ghost use Rattle.std.specs.Prelude.{◌≡◌, true, ◌+◌, ◌*◌, ◌^◌, ◌≤◌, ◌<◌, take};
 ghost use Rattle.output.specs.Output.{Wrote};
 ghost use Rattle.rules.specs.Reals.{exponent_of, is_negative, nearest, thousandths, sign_text, places_text, is_decimal, real_text, real_in};
 ghost use Rattle.real.specs.Forms.{format_of, form_of, scaled_of};
 
 // The form in which real numbers are asked for.
-#[derive(Drop)]
+#[derive(Clone, Copy)]
 pub enum Reals {
     Decimal,
     Bits,

@@ -1,15 +1,14 @@
 -- Characters as they are written: which are written as themselves.
 use mathlib.Core.Path.{◌≡◌, refl, ◌∙◌}
-use mathlib.Core.Bool.{Bool, true, false, ◌&&◌, ◌||◌, not}
+use mathlib.Core.Bool.{Bool, true, false, not}
 use mathlib.Core.List.{[], ◌∷◌}
 use Prim.Native.Nat.{ℕ, ◌+◌, ◌≤◌, ◌<◌}
 use native.Mathlib.Omega.{arith}
-use borrow.Author.Tests.{leb-true, le-leb, lt-ltb, eqb-false, ne_eqb, not-true}
-use lib.Dec.{eqb, leb}
+use borrow.Author.Tests.{leb-true, le-leb, lt-ltb, eqb-false, not-true}
+use lib.Dec.{eqb}
 use lib.ListN.{get_or}
 use Rattle.laws.specs.Tables.{tabled_at}
-use Rattle.rules.specs.Bytes.{if◌then◌else◌}
-use Rattle.rules.specs.Strings.{is_xml, utf8, escapes, shown}
+use Rattle.rules.specs.Strings.{utf8, shown}
 use Rattle.laws.specs.Tests.{both}
 use Rattle.character.proofs.Escapes.{not_escaped, above}
 use Rattle.utf16.proofs.Carry.{carried_low, shown_one}

@@ -1,5 +1,7 @@
 // Strings: UTF-16 to UTF-8, with the characters of XML escaped. A step for one unit, with a high surrogate carried over to the
 // next, and a loop over it; the same for a string that lies in two slices (`across`).
+#![tactic(auto)]
+
 ghost use Rattle.std.specs.Prelude.{◌≡◌, ◌++◌, ◌+◌, ◌≤◌, ◌<◌, length};
 ghost use Rattle.output.specs.Output.{Wrote};
 ghost use Rattle.rules.specs.Names.{units};

@@ -1,4 +1,6 @@
 // The zeros at the end of bytes, which are dropped before some values are written.
+#![tactic(auto)]
+
 ghost use Rattle.std.specs.Prelude.{◌≡◌, length};
 ghost use Rattle.rules.specs.Strings.{without_zeros};
 ghost use Rattle.zeros.specs.Dropped.{Dropped};

@@ -1,0 +1,9 @@
+use Rattle.digits.specs.Digits.{cased}
+use Rattle.digits.proofs.Backwards.{Backwards}
+use Rattle.digits.proofs.put_last.Given as goal
+
+abbrev pub invariant-loop-i : goal.invariant-loop-i
+invariant-loop-i l = Backwards (cased l.upper) l.base l.k l.n l.initial.out l.at l.out l.i l.left
+
+abbrev pub decreases-loop-i : goal.decreases-loop-i
+decreases-loop-i l = l.i
