@@ -17,7 +17,7 @@ indexer = target/bin/evtx_index
 # In C, over the library.
 evt_program = target/bin/evt_list
 archive = target/staticlib/libevtx_c.a
-sources := crates.txt $(shell find crates -name '*.rt' -o -name '*.antt')
+sources := crates.txt $(shell find crates -name out -prune -o \( -name '*.rt' -o -name '*.antt' \) -print)
 root = $(DESTDIR)$(PREFIX)
 
 # The soname has the first part of the version: a program linked with this library runs with a later one of the same first part.
@@ -94,9 +94,9 @@ uninstall: ## removes what make install put there, with the same PREFIX and DEST
 	@bash packaging/install.sh uninstall "$(root)" $(installed)
 
 clean: ## removes all that was built; what was proved has to be proved again
-	@rm -rf target tests/target examples/rust/target
+	@rm -rf target tests/target examples/rust/target crates/*/out
 
-# $(call prove,COMMAND,LOG): passes on which crates are proved, as rt says so. All that it says is in the log, whose end is shown if rt fails.
+# $(call prove,COMMAND,LOG): says which crates are proved, as rt goes on. All that rt says is in the log, whose end is shown if it fails.
 define prove
 @mkdir -p target
 @echo "make: the proofs are made first, which takes some minutes the first time" >&2
@@ -104,9 +104,9 @@ define prove
 @touch $@
 endef
 
-# rt proves before it builds, one crate's run at a time. It leaves a file alone whose sources have changed in nothing but their time, hence the touch.
+# rt proves before it builds, one crate's run at a time. Where the sources have changed in nothing but their time, it proves nothing anew.
 $(program): $(sources)
-	$(call prove,rt check evtx_list,target/program.log)
+	$(call prove,bash packaging/program.sh,target/program.log)
 
 $(carver) $(indexer): $(program)
 	@ln -sfn evtx_list $@

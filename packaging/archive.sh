@@ -5,9 +5,10 @@ set -eu -o pipefail
 cd "$(dirname "$0")/.."
 made=$(mktemp -d)
 trap 'rm -rf "$made"' EXIT
-for crate in records_c lists_c evt_c; do
-    rt staticlib "$crate"
-    (cd "$made" && ar x "$OLDPWD/target/staticlib/lib$crate.a")
+for crate in records_for_c lists_c evt_c evtx_c; do
+    (cd "crates/$crate" && rt lib)
+    (cd "$made" && ar x "$OLDPWD/crates/$crate/out/lib$crate.a")
 done
-rt staticlib evtx_c
-ar r target/staticlib/libevtx_c.a "$made"/*.o
+mkdir -p target/staticlib
+ar rcs "$made/libevtx_c.a" "$made"/*.o
+mv "$made/libevtx_c.a" target/staticlib/

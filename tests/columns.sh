@@ -1,6 +1,6 @@
 #!/usr/bin/env bash
-# Looks for lines of more than 160 columns in the proved sources, the .rt and .antt files under crates/. A column is a character, not a
-# byte: many signs of the proofs take two or three bytes.
+# Looks for lines of more than 160 columns in the proved sources, the .rt and .antt files under crates/, but for what rt keeps in a crate's
+# out/. A column is a character, not a byte: many signs of the proofs take two or three bytes.
 #
 #     columns.sh
 #
@@ -25,7 +25,8 @@ def faults(path):
 
 
 def main():
-    paths = sorted(p for p in pathlib.Path("crates").rglob("*") if p.suffix in (".rt", ".antt"))
+    parts = (p for part in ("src", "specs", "proofs") for p in pathlib.Path("crates").glob(f"*/{part}/**/*"))
+    paths = sorted(p for p in parts if p.suffix in (".rt", ".antt"))
     found = [fault for path in paths for fault in faults(path)]
     if not paths:
         found.append("there is no file to read")

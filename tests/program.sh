@@ -26,6 +26,7 @@ run_as() {
     usage="usage: $name [--help | --version | FILE..]"
     closed_input="$name: standard input: Bad file descriptor"
     no_space="$name: standard output: No space left on device"
+    no_utf8='Invalid or incomplete multibyte or wide character'
     case $1 in
         list) lines=listing none=$'header refused 1\n' ;;
         carve) lines=carving none= ;;
@@ -220,10 +221,10 @@ failures() {
         < <(headed nofile samples)
 }
 
-# A file works by any name, alone and under a line with the very bytes of its name. An option can be a name with a folder before it.
+# A file works by any name of UTF-8, alone and under a line with the very bytes of its name. An option can be a name with a folder before it.
 names() {
     local given
-    for given in 'two words' $'two\nlines' $'Br\xc3\xbccke \xe2\x82\xac' $'not UTF-8 \xff\xfe' './-x' 'ends in :' '$HOME * "' '%s%n'; do
+    for given in 'two words' $'two\nlines' $'Br\xc3\xbccke \xe2\x82\xac' './-x' 'ends in :' '$HOME * "' '%s%n'; do
         cp samples/panel.evtx "$made/$given"
         export given
         holds "the name ${given@Q}" 0 '' '"$@" "$made/$given"' <samples/panel.$lines
@@ -231,6 +232,14 @@ names() {
             < <(printf '%s:\n' "$given"; cat samples/panel.$lines; printf 'empty.evtx:\n%s' "$none")
         rm "$made/$given"
     done
+    # A path of the language's library is UTF-8: another name cannot be opened, which is told, and the next file follows.
+    given=$'not UTF-8 \xff\xfe'
+    cp samples/panel.evtx "$made/$given"
+    export given
+    says "the name ${given@Q}" 1 "$name: $made/$given: $no_utf8" '"$@" "$made/$given"'
+    holds "the name ${given@Q} and another" 1 "$name: $given: $no_utf8" 'cd $made && "$@" "$given" empty.evtx' \
+        < <(printf '%s:\nempty.evtx:\n%s' "$given" "$none")
+    rm "$made/$given"
     # The indexing program takes such a word for a number (names_of_digits).
     [ "$as" != index ] || return
     cp samples/panel.evtx "$made/40112"
@@ -250,9 +259,10 @@ failing_output() {
         < <(headed samples/panel.evtx | head -c 4096)
     says 'a full disk, --help' 1 "$no_space" '"$@" --help >/dev/full'
     says 'a full disk, --version' 1 "$no_space" '"$@" --version >/dev/full'
-    # The signal of a pipe that nobody reads ends the program, and its front with it, as it does other programs.
+    # Where nobody reads a pipe any more the program ends without a word, and its front with it, as the signal ends other programs. The start of a
+    # program of this language ignores that signal, so that it cannot tell whether it was ignored before.
     holds 'the head of a long listing' 141 '' '"$@" $made/long.evtx | head -n 1; exit "${PIPESTATUS[0]}"' < <(head -n 1 "samples/panel.$lines")
-    holds 'the head of a long listing, the signal ignored' 1 "$name: standard output: Broken pipe" \
+    holds 'the head of a long listing, the signal ignored' 141 '' \
         'trap "" PIPE; "$@" $made/long.evtx | head -n 1; exit "${PIPESTATUS[0]}"' < <(head -n 1 "samples/panel.$lines")
 }
 
@@ -425,7 +435,7 @@ names_of_digits() {
 
 # The answer to a number is not whole where a chunk has no index; without a number the lines say so themselves.
 chunks_without_index() {
-    local where given=$'odd\xff: name'
+    local where given=$'odd\xff: name' other=$'odd \xc3\xbf: name'
     holds 'all numbers of a log' 0 '' '"$@" $made/numbers.evtx' <"$made/numbers.index"
     holds 'chunks without an index' 0 '' '"$@" $made/refused.evtx' <"$made/refused.index"
     holds 'chunks without an index, standard input' 0 '' '"$@" <$made/refused.evtx' <"$made/refused.index"
@@ -442,9 +452,11 @@ chunks_without_index() {
         '"$@" 9 $made/numbers.evtx $made/refused.evtx samples/panel.evtx' \
         < <(printf '%s\n' "$made/numbers.evtx:" '0 540 28 9 8' "$made/refused.evtx:" samples/panel.evtx: '0 1367 83 9 0')
     cp "$made/refused.evtx" "$made/$given"
-    export given
-    says 'a number that is nowhere, an odd name' 1 "$(without_index "$given")" 'cd $made && "$@" 7 "$given"'
-    rm "$made/$given"
+    cp "$made/refused.evtx" "$made/$other"
+    export given other
+    says 'a number that is nowhere, a name that is not UTF-8' 1 "$name: $given: $no_utf8" 'cd $made && "$@" 7 "$given"'
+    says 'a number that is nowhere, an odd name' 1 "$(without_index "$other")" 'cd $made && "$@" 7 "$other"'
+    rm "$made/$given" "$made/$other"
     for where in '2>&-' '2>/dev/full'; do
         holds "$where, NUMBER, chunks without an index" 1 '' "\"\$@\" 5 $made/refused.evtx $where" < <(printf '%s\n' '0 512 28 5 8' '2 540 28 5 8')
     done

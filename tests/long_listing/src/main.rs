@@ -33,6 +33,10 @@ const FRONTS: [(usize, &str); 5] = [
 /// A listing is whole only if nothing stands on standard error.
 const NONE: &str = "";
 
+/// How a program ends where nobody reads its pipe any more, as a shell says it of
+/// one that the signal ends.
+const UNREAD: i32 = 141;
+
 /// The line on standard error, as packaging/evtx_list.1 has it: which stream
 /// failed, and the system's text for the reason.
 fn failed(stream: &str, reason: &str) -> String {
@@ -60,7 +64,8 @@ fn difference(program: &Path, source: Source, sink: Sink, due: &Due) -> Option<S
         Err(error) => return Some(format!("{}: {error}", program.display())),
     };
     let errors = String::from_utf8_lossy(&output.stderr);
-    if !output.status.success() {
+    let status = if let Sink::Unread = sink { UNREAD } else { 0 };
+    if output.status.code() != Some(status) {
         // By signal 9 if it did not end in time.
         return Some(format!("the program ended with {}; standard error: {errors}", output.status));
     }
@@ -122,15 +127,15 @@ impl Trials {
     /// long log, long before.
     fn failing_outputs(&mut self, log: &[u8]) -> bool {
         let short = &log[..HEADER + CHUNK];
-        let reasons = [
-            (Sink::Full, "No space left on device"),
-            (Sink::Unread, "Broken pipe"),
-            (Sink::Closed, "Bad file descriptor"),
+        let sinks = [
+            (Sink::Full, failed("output", "No space left on device")),
+            (Sink::Unread, NONE.to_string()),
+            (Sink::Closed, failed("output", "Bad file descriptor")),
         ];
-        for (sink, reason) in reasons {
+        for (sink, errors) in &sinks {
+            let sink = *sink;
             for bytes in [&[], short, log] {
                 let name = "output that cannot be written";
-                let errors = &failed("output", reason);
                 let due = Due { name, bytes, lines: b"", errors };
                 if !self.hold(Source::Pipe(bytes, 1 << 20), sink, due) {
                     return false;

@@ -41,8 +41,8 @@ pub enum Sink<'a> {
 fn command(program: &Path, from: Source, to: Sink) -> Command {
     let input = if let Source::Closed = from { "<&-" } else { "" };
     let output = if let Sink::Closed = to { ">&-" } else { "" };
-    // Without this the signal that nobody reads would end the program before
-    // it could say so.
+    // Without this the signal that nobody reads may end the program before its
+    // start turns the signal off.
     let ignored = if let Sink::Unread = to { "trap '' PIPE;" } else { "" };
     let mut command = Command::new("timeout");
     // The system's texts for what fails are due in English.
