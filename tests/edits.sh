@@ -63,7 +63,7 @@ def relation(text):
             if word in signs:
                 # Less and at most differ as their terms do.
                 return "≤" if word == "<" else word
-    first = words[0].split(".")[-1].strip("_") if words else ")"
+    first = words[0].split(".")[-1].strip("_◌") if words else ")"
     if first in ("c", ")", "}", "Type", "ℕ", "Bool", "List", "Option", "Outcome"):
         return None
     return "≡" if first == "Path" else first
@@ -74,9 +74,9 @@ def same_relation(said):
     expected = re.findall(r"expected type `([^`]*)`|the expected one begins `([^`]*)`|`([^`]*)`\s+\(expected\)", said)
     found = re.findall(r"this has type `([^`]*)(?:`|$)|the found one begins `([^`]*)`|`([^`]*)`\s+\(found\)", said)
     both = {relation("".join(one)) for one in expected} & {relation("".join(one)) for one in found}
-    # rt may cut the message within the type that is found.
-    cut = re.search(r"expected type `([^`]*)`.* this has type `([^`]*)$", said)
-    return bool(both - {None}) or bool(cut and cut[2] and cut[1].startswith(cut[2]))
+    # rt may cut the message before the type that is found, or within it.
+    cut = re.search(r"expected type `([^`]*)`, but this has typ(?:e(?: `([^`]*))?)?$", said)
+    return bool(both - {None}) or bool(cut and relation(cut[1]) and cut[1].startswith(cut[2] or ""))
 
 
 def misfit(said):
