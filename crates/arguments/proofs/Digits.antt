@@ -3,7 +3,7 @@
 use mathlib.Core.Path.{◌≡◌, refl, ap, sym}
 use mathlib.Core.Bool.{Bool, true, false, not}
 use mathlib.Core.List.{List, [], ◌∷◌}
-use mathlib.Core.Option.{Option, none, some}
+use Rattle.std.specs.Prelude.{Option, Some, None, if◌then◌else◌}
 use Prim.Native.Nat.{ℕ, suc, ◌+◌, ◌*◌, ◌-◌, ◌≤◌, ◌<◌}
 use native.Mathlib.Numerals.{add-one}
 use native.Mathlib.Omega.{arith}
@@ -11,12 +11,7 @@ use borrow.Author.Tests.{eq-eqb, ne_eqb, leb-true, leb-false}
 use lib.Dec.{leb}
 use lib.ListN.{length, drop, get_or, drop_of_length-le}
 use lib.Seq.{drop-cons}
-use Rattle.std.specs.Prelude.{if◌then◌else◌}
-use Rattle.laws.specs.Tests.{both}
 use Rattle.arguments.specs.Numbers.{is_digit, all_digits, worth_after, capped, with_digit, number_in}
-
-pub digit_least : (b : ℕ) → is_digit b ≡ true → 48 ≤ b
-digit_least b e = leb-true 48 b (both (leb 48 b) (leb b 57) e).0
 
 -- more digits make no smaller number
 grows : (n : ℕ) (ds : List ℕ) → n ≤ worth_after n ds
@@ -35,10 +30,10 @@ capped_first n ds = go (leb n 0xffff_ffff_ffff_ffff) refl
 
 -- the number, if the rest of the word are digits, and those before it stand for n
 abbrev pub rest : ℕ → List ℕ → Option ℕ
-rest n ds = if not (all_digits ds) then none else some (capped (worth_after n ds))
+rest n ds = if not (all_digits ds) then None else Some (capped (worth_after n ds))
 
 module _ (w : List ℕ) where
-  pub no_word : length w ≡ 0 → none ≡ number_in w
+  pub no_word : length w ≡ 0 → None ≡ number_in w
   unfolding number_in
   no_word e = rw (eq-eqb (length w) 0 e) refl
 
@@ -51,10 +46,10 @@ module _ (w : List ℕ) where
       pub on : is_digit (get_or w i 0) ≡ true → rest n (drop i w) ≡ rest (with_digit n (get_or w i 0)) (drop (i + 1) w)
       on d =
           rw (drop-cons w i 0 h, add-one i, d)
-          (ap (λ (m : ℕ). if not (all_digits (drop (suc i) w)) then none else some m) (capped_first (10 * n + (get_or w i 0 - 48)) (drop (suc i) w)))
+          (ap (λ (m : ℕ). if not (all_digits (drop (suc i) w)) then None else Some m) (capped_first (10 * n + (get_or w i 0 - 48)) (drop (suc i) w)))
 
-      pub stop : is_digit (get_or w i 0) ≡ false → none ≡ rest n (drop i w)
+      pub stop : is_digit (get_or w i 0) ≡ false → None ≡ rest n (drop i w)
       stop d = rw (drop-cons w i 0 h, d) refl
 
-    pub end : length w ≤ i → n ≤ 0xffff_ffff_ffff_ffff → some n ≡ rest n (drop i w)
-    end h m = rw (drop_of_length-le w h) (ap some (omega arith))
+    pub end : length w ≤ i → n ≤ 0xffff_ffff_ffff_ffff → Some n ≡ rest n (drop i w)
+    end h m = rw (drop_of_length-le w h) (ap Some (omega arith))

@@ -1,8 +1,5 @@
 -- Which words are record numbers.
-use Rattle.std.specs.Prelude.{Bool, true, ◌&&◌, ◌||◌, not, List, [], ◌∷◌, ℕ, ◌+◌, ◌*◌, ◌-◌, min, leb, eqb, length, if◌then◌else◌}
-use Rattle.std.proofs.Math.Option.{Option, none, some}
-use Rattle.arguments.specs.declared.Number.{Number}
-use Rattle.arguments.specs.declared.Number.TheVariants.{Is, Not}
+use Rattle.std.specs.Prelude.{Bool, true, ◌&&◌, ◌||◌, not, List, [], ◌∷◌, Option, Some, None, ℕ, ◌+◌, ◌*◌, ◌-◌, min, leb, eqb, length, if◌then◌else◌}
 
 -- 30 to 39 are the digits
 abbrev pub is_digit : ℕ → Bool
@@ -27,9 +24,4 @@ with_digit n d = capped (10 * n + (d - 0x30))
 
 -- one or more digits, and nothing else, are a number
 unfoldable pub number_in : List ℕ → Option ℕ
-number_in w = if eqb (length w) 0 || not (all_digits w) then none else some (capped (worth_after 0 w))
-
--- what the answer means
-abbrev pub number_meaning : Number → Option ℕ
-number_meaning (Is n) = some n
-number_meaning Not = none
+number_in w = if eqb (length w) 0 || not (all_digits w) then None else Some (capped (worth_after 0 w))

@@ -2,9 +2,8 @@
 #![tactic(auto)]
 
 ghost use Rattle.std.specs.Prelude.{◌≡◌, ◌≤◌};
-ghost use Rattle.rules.specs.Bytes.{same};
 ghost use Rattle.arguments.specs.Words.{asked, is_named, called as calledBy};
-ghost use Rattle.arguments.specs.Numbers.{is_digit, with_digit, number_in, number_meaning};
+ghost use Rattle.arguments.specs.Numbers.{with_digit, number_in};
 
 // Standard input, the help, the version, something that no program here knows, or a file by its name.
 #[derive(Clone, Copy)]
@@ -24,37 +23,20 @@ pub enum Program {
     Index,
 }
 
-// A record number, or a word that is none.
-#[derive(Clone, Copy)]
-pub enum Number {
-    Is { number: u64 },
-    Not,
-}
-
-// Whether these are the known bytes, and no more.
-fn is(bytes: &[u8], known: &[u8]) -> bool
-    ensures { result ≡ same bytes.now known.now }
-{
-    if bytes.len() != known.len() {
-        return false;
-    }
-    octets::same_at(bytes, 0, known)
-}
-
 // What a word asks for: `-` is standard input, and any other word that begins so is an option.
 pub fn asks_for(bytes: &[u8]) -> Word
     ensures { result ≡ asked bytes.now }
 {
-    if is(bytes, b"-") {
+    if bytes == b"-".as_slice() {
         return Word::Input;
     }
-    if is(bytes, b"--help") {
+    if bytes == b"--help".as_slice() {
         return Word::Help;
     }
-    if is(bytes, b"--version") {
+    if bytes == b"--version".as_slice() {
         return Word::Version;
     }
-    if octets::same_at(bytes, 0, b"-") {
+    if bytes.starts_with(b"-") {
         return Word::Unknown;
     }
     Word::File
@@ -64,16 +46,11 @@ pub fn asks_for(bytes: &[u8]) -> Word
 fn is_named(name: &[u8], known: &[u8], path: &[u8]) -> bool
     ensures { result ≡ is_named known.now path.now name.now }
 {
-    if is(name, known) {
-        return true;
-    }
-    if name.len() < path.len() {
-        return false;
-    }
-    octets::same_at(name, name.len() - path.len(), path)
+    name == known || name.ends_with(path)
 }
 
 // The program that is called by a name, which may be a path.
+#[tactic(auto, unfolding(crate::specs::Words::called))]
 pub fn called(name: &[u8]) -> Program
     ensures { result ≡ calledBy name.now }
 {
@@ -86,42 +63,28 @@ pub fn called(name: &[u8]) -> Program
     Program::List
 }
 
-fn is_digit(byte: u8) -> bool
-    ensures { result ≡ is_digit byte }
-{
-    if byte < b'0' {
-        return false;
-    }
-    byte <= b'9'
-}
-
 // The number with one digit more at its end; the largest of 64 bits where it is larger than that.
 fn with_digit(number: u64, digit: u8) -> u64
     requires { 48 ≤ digit }
     ensures { result ≡ with_digit number digit }
 {
-    let d = (digit - b'0') as u64;
-    if (18446744073709551615 - d) / 10 < number {
-        return 18446744073709551615;
-    }
-    10 * number + d
+    let d = u64::from(digit - b'0');
+    number.saturating_mul(10).saturating_add(d)
 }
 
 // The record number that a word of digits stands for; the largest of 64 bits, which no entry of an index has, for any that is larger.
-pub fn number_in(word: &[u8]) -> Number
-    ensures { number_meaning result ≡ number_in word.now }
+pub fn number_in(word: &[u8]) -> Option<u64>
+    ensures { result ≡ number_in word.now }
 {
-    if word.len() == 0 {
-        return Number::Not;
+    if word.is_empty() {
+        return None;
     }
     let mut number: u64 = 0;
-    let mut i = 0;
-    while i < word.len() {
-        if !is_digit(word[i]) {
-            return Number::Not;
+    for &digit in word {
+        if !digit.is_ascii_digit() {
+            return None;
         }
-        number = with_digit(number, word[i]);
-        i += 1;
+        number = with_digit(number, digit);
     }
-    Number::Is { number }
+    Some(number)
 }

@@ -6,11 +6,11 @@ use Prim.Native.Nat.{ℕ}
 use Rattle.output.specs.Output.{Wrote}
 use Rattle.rules.specs.Bytes.{Text}
 use Rattle.rules.specs.Answers.{value}
-use Rattle.calendar.specs.declared.Time.TheVariants.{Done, Wrong}
+use Rattle.std.specs.Prelude.{Some, None}
 use Rattle.calendar.specs.Times.{PutTime}
 
-pub put_done : {out out' : List ℕ} {at at' : ℕ} {t : Text} → Wrote out at t out' at' → PutTime (some t) out at out' (Done at')
+pub put_done : {out out' : List ℕ} {at at' : ℕ} {t : Text} → Wrote out at t out' at' → PutTime (some t) out at out' (Some at')
 put_done w = record { meaning = ap value w.count; bytes = w.bytes }
 
-pub put_wrong : {out : List ℕ} {at : ℕ} → PutTime none out at out Wrong
+pub put_wrong : {out : List ℕ} {at : ℕ} → PutTime none out at out None
 put_wrong = record { meaning = refl; bytes = refl }

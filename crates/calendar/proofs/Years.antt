@@ -85,9 +85,3 @@ in_the_year d n rest m y low high before after =
     let years : 1_601 + n - 1_601 ≡ n = omega arith in
     let is : day_number date ≡ d = rw years (omega (arith, y.whole)) in
     sym (ap date_of is) ∙ back_and_there date real
-
--- before the last month is reached, a month more has begun
-pub not_last : (y rest m : ℕ) → rest < days_of_year y → m ≤ 12 → get_or (row y) m 0 ≤ rest → m < 12
-not_last y rest m inside most begun =
-    let not : m ≡ 12 → ⊥ = λ e. omega (arith, ap (λ (i : ℕ). get_or (row y) i 0) e) in
-    omega arith

@@ -4,7 +4,7 @@
 ghost use Rattle.std.specs.Prelude.{◌≡◌, [], ◌∷◌, ◌++◌, ◌+◌, ◌≤◌, ◌<◌, take, get_or};
 ghost use Rattle.output.specs.Output.{Wrote};
 ghost use Rattle.rules.specs.Numerals.{padded};
-ghost use Rattle.rules.specs.Dates.{leap, is_date, is_clock, date_of, clock_text, time_text, file_time, sys_time};
+ghost use Rattle.rules.specs.Dates.{leap, days_of_month, is_date, is_clock, date_of, clock_text, time_text, file_time, sys_time};
 ghost use Rattle.laws.specs.Calendar.{days_of_years};
 ghost use Rattle.calendar.specs.Times.{date_in, PutTime};
 ghost use Rattle.calendar.specs.Years.{row_of, YearOf};
@@ -14,13 +14,6 @@ const DAYS: [[u64; 13]; 2] = [
     [0, 31, 59, 90, 120, 151, 181, 212, 243, 273, 304, 334, 365],
     [0, 31, 60, 91, 121, 152, 182, 213, 244, 274, 305, 335, 366],
 ];
-
-// What comes of a time: the place after its text, or a refusal since it is none.
-#[derive(Clone, Copy)]
-pub enum Time {
-    Done { at: usize },
-    Wrong,
-}
 
 #[derive(Clone, Copy)]
 struct Date {
@@ -46,13 +39,7 @@ struct Year {
 fn is_leap(y: u64) -> bool
     ensures { result ≡ leap y }
 {
-    if y % 4 != 0 {
-        return false;
-    }
-    if y % 100 != 0 {
-        return true;
-    }
-    y % 400 == 0
+    y % 4 == 0 && (y % 100 != 0 || y % 400 == 0)
 }
 
 // The m-th entry of a row.
@@ -103,15 +90,17 @@ fn date_of(d: u64) -> Date
     let year = 1601 + y.years;
     let rest = y.rest;
     let l = is_leap(year);
-    let mut m: usize = 1;
-    while days_before(l, m) <= rest {
-        m += 1;
+    for m in 1..13 {
+        if rest < days_before(l, m) {
+            return Date {
+                year,
+                month: m as u64,
+                day: rest - days_before(l, m - 1) + 1,
+            };
+        }
     }
-    Date {
-        year,
-        month: m as u64,
-        day: rest - days_before(l, m - 1) + 1,
-    }
+    // the day is one of its year, so the loop ends with December
+    unreachable!()
 }
 
 // k digits of a, and two of each of b and c, with `mark` before each of these.
@@ -137,13 +126,13 @@ fn put_time(out: &mut [u8], at: usize, d: Date, t: Clock, k: u8, fraction: u64) 
     output::put(out, f, b'Z')
 }
 
-// The FileTime in the first 8 bytes of src.
-pub fn put_file_time(out: &mut [u8], at: usize, src: &[u8]) -> Time
+// The FileTime in the first 8 bytes of src: the place after its text, or none where it is no time.
+pub fn put_file_time(out: &mut [u8], at: usize, src: &[u8]) -> Option<usize>
     ensures { PutTime (file_time (take 8 src.now)) out.old at out.new result }
 {
     let n = octets::number_at(src, 0, 8);
     if 2650467743999999999 < n {
-        return Time::Wrong;
+        return None;
     }
     let seconds = n / 10000000;
     let clock = Clock {
@@ -151,50 +140,39 @@ pub fn put_file_time(out: &mut [u8], at: usize, src: &[u8]) -> Time
         minute: seconds / 60 % 60,
         second: seconds % 60,
     };
-    Time::Done {
-        at: put_time(out, at, date_of(seconds / 86400), clock, 7, n % 10000000),
-    }
+    Some(put_time(out, at, date_of(seconds / 86400), clock, 7, n % 10000000))
+}
+
+fn days_of_month(y: u64, m: u64) -> u64
+    requires { (1 ≤ m) × (m ≤ 12) }
+    ensures { result ≡ days_of_month y m }
+{
+    let l = is_leap(y);
+    let i = m as usize;
+    days_before(l, i) - days_before(l, i - 1)
 }
 
 // A date from 1601 to 9999, on a real day of its month.
 fn is_date(d: Date) -> bool
     ensures { result ≡ is_date (date_in d) }
 {
-    if d.year < 1601 {
-        return false;
-    }
-    if 9999 < d.year {
-        return false;
-    }
-    if d.month < 1 {
-        return false;
-    }
-    if 12 < d.month {
-        return false;
-    }
-    if d.day < 1 {
-        return false;
-    }
-    let l = is_leap(d.year);
-    let m = d.month as usize;
-    d.day <= days_before(l, m) - days_before(l, m - 1)
+    1601 <= d.year
+        && d.year <= 9999
+        && 1 <= d.month
+        && d.month <= 12
+        && 1 <= d.day
+        && d.day <= days_of_month(d.year, d.month)
 }
 
 // Hour, minute and second below 24, 60, 60.
 fn is_clock(t: Clock) -> bool
     ensures { result ≡ is_clock t.hour t.minute t.second }
 {
-    if 24 <= t.hour {
-        return false;
-    }
-    if 60 <= t.minute {
-        return false;
-    }
-    t.second < 60
+    t.hour < 24 && t.minute < 60 && t.second < 60
 }
 
-// The SysTime in eight 2-byte fields of src; the third, the weekday, is not read.
-pub fn put_sys_time(out: &mut [u8], at: usize, src: &[u8]) -> Time
+// The SysTime in eight 2-byte fields of src; the third, the weekday, is not read. There is no place where it is no time.
+pub fn put_sys_time(out: &mut [u8], at: usize, src: &[u8]) -> Option<usize>
     ensures { PutTime (sys_time src.now) out.old at out.new result }
 {
     let date = Date {
@@ -209,15 +187,13 @@ pub fn put_sys_time(out: &mut [u8], at: usize, src: &[u8]) -> Time
     };
     let ms = octets::number_at(src, 14, 2);
     if !is_date(date) {
-        return Time::Wrong;
+        return None;
     }
     if !is_clock(clock) {
-        return Time::Wrong;
+        return None;
     }
     if 1000 <= ms {
-        return Time::Wrong;
+        return None;
     }
-    Time::Done {
-        at: put_time(out, at, date, clock, 3, ms),
-    }
+    Some(put_time(out, at, date, clock, 3, ms))
 }

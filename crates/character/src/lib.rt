@@ -5,21 +5,14 @@ ghost use Rattle.std.specs.Prelude.{◌≡◌, [], ◌∷◌, ◌+◌, ◌/◌, 
 ghost use Rattle.output.specs.Output.{Wrote};
 ghost use Rattle.rules.specs.Strings.{utf8, is_xml, shown};
 
-fn byte(c: u32) -> u8
-    requires { c < 256 }
-    ensures { result ≡ c }
-{
-    c as u8
-}
-
 // The byte `first`, and then the last twelve bits of c in two.
 fn put_three(out: &mut [u8], at: usize, first: u32, c: u32) -> usize
     requires { first < 256 }
     ensures { Wrote out.old at (first ∷ (128 + c / 64 % 64) ∷ (128 + c % 64) ∷ []) out.new result }
 {
-    let second = output::put(out, at, byte(first));
-    let third = output::put(out, second, byte(128 + c / 64 % 64));
-    output::put(out, third, byte(128 + c % 64))
+    let second = output::put(out, at, first as u8);
+    let third = output::put(out, second, (128 + c / 64 % 64) as u8);
+    output::put(out, third, (128 + c % 64) as u8)
 }
 
 // A character in UTF-8.
@@ -28,16 +21,16 @@ fn put_utf8(out: &mut [u8], at: usize, c: u32) -> usize
     ensures { Wrote out.old at (utf8 c) out.new result }
 {
     if c < 0x80 {
-        return output::put(out, at, byte(c));
+        return output::put(out, at, c as u8);
     }
     if c < 0x800 {
-        let second = output::put(out, at, byte(0xc0 + c / 64));
-        return output::put(out, second, byte(0x80 + c % 64));
+        let second = output::put(out, at, (0xc0 + c / 64) as u8);
+        return output::put(out, second, (0x80 + c % 64) as u8);
     }
     if c < 0x10000 {
         return put_three(out, at, 0xe0 + c / 4096, c);
     }
-    let second = output::put(out, at, byte(0xf0 + c / 262144));
+    let second = output::put(out, at, (0xf0 + c / 262144) as u8);
     put_three(out, second, 0x80 + c / 4096 % 64, c)
 }
 
@@ -45,45 +38,14 @@ fn put_utf8(out: &mut [u8], at: usize, c: u32) -> usize
 fn xml(c: u32) -> u32
     ensures { (result ≡ (if is_xml c then c else 0xfffd)) × (result < 1114112) }
 {
-    if c < 0x20 {
-        return control(c);
+    match c {
+        9 | 10 | 13 | 0x20..=0xd7ff | 0xe000..=0xfffd | 0x10000..=0x10ffff => c,
+        _ => 0xfffd,
     }
-    if c <= 0xd7ff {
-        return c;
-    }
-    if c < 0xe000 {
-        return 0xfffd;
-    }
-    if c <= 0xfffd {
-        return c;
-    }
-    if c < 0x10000 {
-        return 0xfffd;
-    }
-    if c <= 0x10ffff {
-        return c;
-    }
-    0xfffd
-}
-
-// The same of a control character.
-fn control(c: u32) -> u32
-    requires { c < 0x20 }
-    ensures { (result ≡ (if is_xml c then c else 0xfffd)) × (result < 1114112) }
-{
-    if c == 9 {
-        return c;
-    }
-    if c == 10 {
-        return c;
-    }
-    if c == 13 {
-        return c;
-    }
-    0xfffd
 }
 
 // A character as it is written.
+#[tactic(auto, using(crate::proofs::Escapes::not_escaped), unfolding(rules::specs::Strings::shown, rules::specs::Strings::escapes))]
 pub fn put_shown(out: &mut [u8], at: usize, c: u32) -> usize
     ensures { Wrote out.old at (shown c) out.new result }
 {

@@ -11,7 +11,7 @@ use native.Mathlib.Nat.{add-zero, add-suc}
 use native.Mathlib.Omega.{arith}
 use lib.Bits.{bit_xor, xor_zero_r, xor_comm, xor_shifted}
 use lib.ListN.{length, take, drop, get_or, length-drop}
-use lib.Seq.{take-add, drop-drop, get_or-drop}
+use lib.Seq.{take_all, take-add, drop-drop, get_or-drop}
 use Rattle.rules.specs.Bytes.{number, number_at}
 use Rattle.rules.specs.Checksum.{crc_bit, crc_bits, crc_byte, crc_over}
 use Rattle.crc32.proofs.Linear.{xor_assoc, bits_linear, bits_shifted, by_table}
@@ -69,33 +69,30 @@ over_number (suc n) (b ∷ s) h bytes c =
     ∙ sym (bits_more (8 * n) 8 (bit_xor c (b + 256 * number (take n s))))
     ∙ ap (λ (k : ℕ). crc_bits k (bit_xor c (b + 256 * number (take n s)))) z
 
-module _ (s : List ℕ) (bytes : (j : ℕ) → get_or s j 0 < 256) (i : ℕ) where
+module _ (s : List ℕ) (bytes : (j : ℕ) → get_or s j 0 < 256) where
   -- the first word of a stretch goes through by itself, and the rest from a state of zero
-  word_out : (k n c : ℕ) → i + k + 4 + n ≤ length s
-      → crc_over c (take (4 + n) (drop (i + k) s)) ≡ bit_xor (crc_over 0 (take n (drop (i + (k + 4)) s)))
-      (crc_bits (8 * n + 32) (bit_xor c (number_at (i + k) 4 s)))
+  word_out : (k n c : ℕ) → k + 4 + n ≤ length s
+      → crc_over c (take (4 + n) (drop k s)) ≡ bit_xor (crc_over 0 (take n (drop (k + 4) s))) (crc_bits (8 * n + 32) (bit_xor c (number_at k 4 s)))
   word_out k n c h =
-      let r : List ℕ = take n (drop (i + (k + 4)) s) in
-      let x = bit_xor c (number_at (i + k) 4 s) in
-      let z : i + k + 4 ≡ i + (k + 4) = omega arith in
-      let rest = over_number n (drop (i + (k + 4)) s) (rw length-drop (omega arith)) (λ j. rw get_or-drop (bytes (i + (k + 4) + j))) in
-      ap (crc_over c) (take-add 4 n (drop (i + k) s) ∙ ap (λ (l : List ℕ). take 4 (drop (i + k) s) ++ take n l) (rw z at (drop-drop 4 (i + k) s)))
-      ∙ sym (over_append c (take 4 (drop (i + k) s)) r)
-      ∙ ap (λ (y : ℕ). crc_over y r) (over_number 4 (drop (i + k) s) (rw length-drop (omega arith)) (λ j. rw get_or-drop (bytes (i + k + j))) c)
+      let r : List ℕ = take n (drop (k + 4) s) in
+      let x = bit_xor c (number_at k 4 s) in
+      let rest = over_number n (drop (k + 4) s) (rw length-drop (omega arith)) (λ j. rw get_or-drop (bytes (k + 4 + j))) in
+      ap (crc_over c) (take-add 4 n (drop k s) ∙ ap (λ (l : List ℕ). take 4 (drop k s) ++ take n l) (drop-drop 4 k s))
+      ∙ sym (over_append c (take 4 (drop k s)) r)
+      ∙ ap (λ (y : ℕ). crc_over y r) (over_number 4 (drop k s) (rw length-drop (omega arith)) (λ j. rw get_or-drop (bytes (k + j))) c)
       ∙ rest (crc_bits 32 x)
       ∙ bits_linear (8 * n) (crc_bits 32 x) (number r)
       ∙ xor_comm (crc_bits (8 * n) (crc_bits 32 x)) (crc_bits (8 * n) (number r))
       ∙ ap₂ bit_xor (sym (rest 0)) (sym (bits_more (8 * n) 32 x))
 
-  pub over_sixteen : (c : ℕ) → i + 16 ≤ length s
-      → crc_over c (take 16 (drop i s)) ≡ bit_xor
-      (bit_xor (bit_xor (crc_bits 32 (number_at (i + 12) 4 s)) (crc_bits 64 (number_at (i + 8) 4 s))) (crc_bits 96 (number_at (i + 4) 4 s)))
-      (crc_bits 128 (bit_xor c (number_at i 4 s)))
+  pub over_sixteen : (c : ℕ) → length s ≡ 16
+      → crc_over c s ≡ bit_xor (bit_xor (bit_xor (crc_bits 32 (number_at 12 4 s)) (crc_bits 64 (number_at 8 4 s))) (crc_bits 96 (number_at 4 4 s)))
+      (crc_bits 128 (bit_xor c (number_at 0 4 s)))
   unfolding crc_over
   over_sixteen c h =
-      let z : i + 0 ≡ i = omega arith in
-      rw z at (word_out 0 12 c (omega arith))
-      ∙ ap (λ (y : ℕ). bit_xor y (crc_bits 128 (bit_xor c (number_at i 4 s))))
+      ap (crc_over c) (sym (take_all 16 s (omega arith)))
+      ∙ word_out 0 12 c (omega arith)
+      ∙ ap (λ (y : ℕ). bit_xor y (crc_bits 128 (bit_xor c (number_at 0 4 s))))
       (word_out 4 8 0 (omega arith)
-      ∙ ap (λ (y : ℕ). bit_xor y (crc_bits 96 (number_at (i + 4) 4 s)))
-      (word_out 8 4 0 (omega arith) ∙ ap (λ (y : ℕ). bit_xor y (crc_bits 64 (number_at (i + 8) 4 s))) (word_out 12 0 0 (omega arith))))
+      ∙ ap (λ (y : ℕ). bit_xor y (crc_bits 96 (number_at 4 4 s)))
+      (word_out 8 4 0 (omega arith) ∙ ap (λ (y : ℕ). bit_xor y (crc_bits 64 (number_at 8 4 s))) (word_out 12 0 0 (omega arith))))

@@ -1,9 +1,8 @@
 // CRC-32 by a table: an update of a state by a part of the bytes, 16 bytes at a time where the part is long.
 #![tactic(auto)]
 
-ghost use Rattle.std.specs.Prelude.{◌≡◌, true, ◌%◌, length};
+ghost use Rattle.std.specs.Prelude.{◌≡◌, ◌%◌};
 ghost use Rattle.std.specs.Int.Bits.{bit_xor};
-ghost use Rattle.crc32.specs.Table.{right};
 ghost use Rattle.rules.specs.Checksum.{all_ones, crc_bits, crc_byte, crc_over};
 
 mod rows;
@@ -12,34 +11,29 @@ mod table;
 use table::TABLE;
 
 // The entry of the table for the low byte of x.
-fn entry(table: &[u32; 256], x: u32) -> u32
-    requires { (right 0 table.now ≡ true) × (length table.now ≡ 256) }
+fn entry(x: u32) -> u32
     ensures { result ≡ crc_bits 8 (x % 256) }
 {
-    table[(x % 256) as usize]
+    TABLE[(x % 256) as usize]
 }
 
 // The state after one byte.
-pub(crate) fn step(table: &[u32; 256], state: u32, b: u8) -> u32
-    requires { (right 0 table.now ≡ true) × (length table.now ≡ 256) }
+pub(crate) fn step(state: u32, b: u8) -> u32
     ensures { result ≡ crc_byte state b }
 {
     let x = (b as u32) ^ state;
-    entry(table, x) ^ (x / 256)
+    entry(x) ^ (x / 256)
 }
 
-// The state after the bytes of a part. A constant is copied where it is used, so the table is taken once for the part and not for each
-// byte.
+// The state after the bytes of a part.
+#[tactic(auto, using(crate::proofs::Passing::pass_step, crate::proofs::Passing::pass_rest))]
 pub fn update(state: u32, part: &[u8]) -> u32
     ensures { result ≡ crc_over state part.now }
 {
-    let table = TABLE;
-    let begun = rows::begin(&table, state, part);
+    let begun = rows::begin(state, part);
     let mut c = begun.state;
-    let mut i = begun.at;
-    while i < part.len() {
-        c = step(&table, c, part[i]);
-        i += 1;
+    for &b in &part[begun.at..] {
+        c = step(c, b);
     }
     c
 }

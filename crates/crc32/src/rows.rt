@@ -1,9 +1,7 @@
 // Slicing by 16: sixteen bytes of a part in one turn of a loop, by rows of entries that are made from the table.
-// The lengths of the arrays stand in each `requires`, since a proof is not told the length of an array that is lent.
-ghost use Rattle.std.specs.Prelude.{◌≡◌, true, ◌+◌, ◌*◌, ◌%◌, ◌≤◌, ◌<◌, length, take, drop};
+ghost use Rattle.std.specs.Prelude.{◌≡◌, ◌+◌, ◌*◌, ◌%◌, ◌≤◌, ◌<◌, length};
 ghost use Rattle.rules.specs.Bytes.{number_at};
 ghost use Rattle.rules.specs.Checksum.{crc_bits, crc_over};
-ghost use Rattle.crc32.specs.Table.{right};
 ghost use Rattle.crc32.specs.Passing.{Passing};
 ghost use Rattle.crc32.specs.Rows.{Rows};
 
@@ -17,15 +15,13 @@ pub(crate) struct Passed {
 }
 
 // Makes the rows: each entry from the entry one row before by a byte of zero, and those of the first row from the bytes themselves.
-fn fill(table: &[u32; 256], rows: &mut [u32; 4096])
-    requires { (right 0 table.now ≡ true) × (length table.now ≡ 256) × (length rows.old ≡ 4096) }
+fn fill(rows: &mut [u32; 4096])
+    requires { length rows.old ≡ 4096 }
     ensures { Rows rows.new 4096 }
 {
-    let mut k = 0;
-    while k < 4096 {
+    for k in 0..4096 {
         let before = if k < 256 { k as u32 } else { rows[k - 256] };
-        rows[k] = step(table, before, 0);
-        k += 1;
+        rows[k] = step(before, 0);
     }
 }
 
@@ -58,41 +54,40 @@ fn four(part: &[u8], i: usize) -> u32
     octets::four(part, i) as u32
 }
 
-// The state after the 16 bytes at i. The word that waits for the state is added last, so that the others are ready by then.
-fn sixteen(rows: &[u32; 4096], state: u32, part: &[u8], i: usize) -> u32
-    requires { Rows rows.now 4096 × (i + 16 ≤ length part.now) }
-    ensures { result ≡ crc_over state (take 16 (drop i part.now)) }
+// The state after 16 bytes. The word that waits for the state is added last, so that the others are ready by then.
+fn sixteen(rows: &[u32; 4096], state: u32, bytes: &[u8]) -> u32
+    requires { Rows rows.now 4096 × (length bytes.now ≡ 16) }
+    ensures { result ≡ crc_over state bytes.now }
 {
-    let last = word(rows, 0, four(part, i + 12));
-    let third = word(rows, 4, four(part, i + 8));
-    let second = word(rows, 8, four(part, i + 4));
-    last ^ third ^ second ^ word(rows, 12, state ^ four(part, i))
+    let last = word(rows, 0, four(bytes, 12));
+    let third = word(rows, 4, four(bytes, 8));
+    let second = word(rows, 8, four(bytes, 4));
+    last ^ third ^ second ^ word(rows, 12, state ^ four(bytes, 0))
 }
 
 // The state after the sixteens of a part.
-fn sixteens(table: &[u32; 256], state: u32, part: &[u8]) -> Passed
-    requires { (right 0 table.now ≡ true) × (length table.now ≡ 256) }
+fn sixteens(state: u32, part: &[u8]) -> Passed
     ensures { (result.at ≤ length part.now) × Passing state part.now result.state result.at }
 {
     let mut rows = [0u32; 4096];
-    fill(table, &mut rows);
+    fill(&mut rows);
     let mut c = state;
-    let mut i = 0;
-    while 16 <= part.len() - i {
-        c = sixteen(&rows, c, part, i);
-        i += 16;
+    for bytes in part.chunks_exact(16) {
+        c = sixteen(&rows, c, bytes);
     }
-    Passed { state: c, at: i }
+    Passed {
+        state: c,
+        at: part.len() - part.len() % 16,
+    }
 }
 
 // The state after the sixteens of a long part. The rows take as long to make as some 1,200 bytes do one at a time, so a short part goes
 // without them.
-pub(crate) fn begin(table: &[u32; 256], state: u32, part: &[u8]) -> Passed
-    requires { (right 0 table.now ≡ true) × (length table.now ≡ 256) }
+pub(crate) fn begin(state: u32, part: &[u8]) -> Passed
     ensures { (result.at ≤ length part.now) × Passing state part.now result.state result.at }
 {
     if part.len() < 2048 {
         return Passed { state, at: 0 };
     }
-    sixteens(table, state, part)
+    sixteens(state, part)
 }

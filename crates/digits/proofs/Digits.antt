@@ -2,7 +2,7 @@
 --     digits_low, digits_high : below the base one digit; else those of the quotient, and then that of the remainder
 --     digits_last : so they are the last digits, as many as the powers of the base say
 use mathlib.Core.Path.{◌≡◌, refl, ap, sym, ◌∙◌}
-use mathlib.Core.Bool.{Bool, true, false, ◌||◌}
+use mathlib.Core.Bool.{Bool, true, false}
 use mathlib.Core.List.{[], ◌∷◌, ◌++◌, append_assoc}
 use mathlib.Core.Logic.{◌⊎◌, inl, inr}
 use Prim.Native.Nat.{ℕ, zero, suc, ◌*◌, ◌-◌, ◌/◌, ◌%◌, ◌^◌, ◌≤◌, ◌<◌}
@@ -10,29 +10,21 @@ use native.Mathlib.Nat.{div-lt_self, div-mul-le_self, mod-lt, mod-eq-sub-div-mul
 use native.Mathlib.Nat.{mul-le-mul_right, le-div_iff_mul-le}
 use native.Mathlib.Omega.{arith}
 use borrow.Author.Tests.{ltb-true, ltb-false, lt-ltb, le-ltb}
-use lib.Dec.{T, ltb, eqb, eqb→eq}
+use lib.Dec.{ltb}
 use lib.ListN.{length, length-append}
 use Rattle.rules.specs.Bytes.{Text}
 use Rattle.rules.specs.Numerals.{lower, digits, last_digits}
 use Rattle.digits.specs.Digits.{Base}
 
--- a base that a call writes out is told by the test, whichever of the two it is
-pub base_is : {base : ℕ} → T (eqb base 10 || eqb base 16) → Base base
-base_is {base} t = go (eqb base 10) refl t
-  where
-    go : (b : Bool) → eqb base 10 ≡ b → T (b || eqb base 16) → Base base
-    go true e t = inl (eqb→eq base 10 (rw e tt))
-    go false e t = inr (eqb→eq base 16 t)
-
 pub base_bounds : {base : ℕ} → Base base → (10 ≤ base) × (base ≤ 16)
 base_bounds (inl e) = (omega arith, omega arith)
 base_bounds (inr e) = (omega arith, omega arith)
 
--- what the quotient q leaves of n is its last digit
-pub remainder : {base : ℕ} → Base base → (n q : ℕ) → q ≡ n / base → (q * base ≤ n) × (n - q * base ≡ n % base) × (n % base < 16)
-remainder {base} b n q e =
+-- what the quotient leaves of n is its last digit
+pub remainder : {base : ℕ} → Base base → (n : ℕ) → (n / base * base ≤ n) × (n - n / base * base ≡ n % base) × (n % base < 16)
+remainder {base} b n =
     let t = base_bounds b in
-    (rw e (div-mul-le_self n base), rw e (sym (mod-eq-sub-div-mul n base)), omega (arith, mod-lt n {m = base} (omega arith)))
+    (div-mul-le_self n base, sym (mod-eq-sub-div-mul n base), omega (arith, mod-lt n {m = base} (omega arith)))
 
 few : (base k n : ℕ) (after : Text) → n < base → digits base (suc k) n after ≡ lower n ∷ after
 unfolding digits

@@ -4,10 +4,13 @@
 ghost use Rattle.std.specs.Prelude.{◌≡◌, length};
 ghost use Rattle.rules.specs.Answers.{Answered};
 ghost use Rattle.rules.specs.Evt.{evt_header, evt_text, evt_fields};
-ghost use Rattle.evt.specs.Stands.{seen_meaning};
+ghost use Rattle.refusal.specs.Refusals.{outcome_by};
+ghost use Rattle.evt.specs.Stands.{seen_fields};
 ghost use Rattle.evt_c.specs.Answers.{seen_in};
 
+use evt::Seen;
 use records_c::{EvtxAnswer, EvtxText};
+use refusal::Refusal;
 
 #[repr(C)]
 #[derive(Clone, Copy)]
@@ -19,32 +22,13 @@ pub struct EvtxEvtSeen {
     pub next: u64,
 }
 
-// The answer about a header.
-fn header_answer(header: repair::EvtAnswer) -> EvtxAnswer
-    ensures { (result.number ≡ header.number) × (result.length ≡ header.length) }
-{
-    EvtxAnswer {
-        number: header.number,
-        length: header.length as u64,
-    }
-}
-
 // The header of a log, repaired where the dirty flag is set.
 #[unsafe(no_mangle)]
 pub extern "C" fn evtx_evt_header(file: &[u8], out: &mut [u8]) -> EvtxAnswer
     ensures { Answered (evt_header file.now (length out.old)) out.old out.new result.number result.length }
 {
-    header_answer(repair::header(file, out))
-}
-
-// The answer about a text.
-fn text_answer(text: repair::EvtAnswer) -> EvtxText
-    ensures { (result.number ≡ text.number) × (result.length ≡ text.length) }
-{
-    EvtxText {
-        number: text.number,
-        length: text.length as u64,
-    }
+    let (number, length) = refusal::in_numbers(repair::header(file, out));
+    EvtxAnswer { number, length }
 }
 
 // The text of the record at an offset.
@@ -52,28 +36,24 @@ fn text_answer(text: repair::EvtAnswer) -> EvtxText
 pub extern "C" fn evtx_evt_text(file: &[u8], offset: u64, out: &mut [u8]) -> EvtxText
     ensures { Answered (evt_text file.now offset (length out.old)) out.old out.new result.number result.length }
 {
-    text_answer(evt::text(file, offset as usize, out))
+    let (number, length) = refusal::in_numbers(evt::text(file, offset as usize, out));
+    EvtxText { number, length }
 }
 
 // The answer that tells what a record shows of itself.
-fn seen_answer(seen: evt::Seen) -> EvtxEvtSeen
-    ensures { result ≡ seen_in (seen_meaning seen) }
+fn seen_answer(seen: Result<Seen, Refusal>) -> EvtxEvtSeen
+    ensures { result ≡ seen_in (outcome_by seen_fields seen) }
 {
     match seen {
-        evt::Seen::At {
-            length,
-            record_number,
-            written_time,
-            next,
-        } => EvtxEvtSeen {
+        Ok(seen) => EvtxEvtSeen {
             number: 0,
-            length: length as u64,
-            record_number,
-            written_time,
-            next: next as u64,
+            length: seen.length as u64,
+            record_number: seen.record_number,
+            written_time: seen.written_time,
+            next: seen.next as u64,
         },
-        evt::Seen::Refused { number } => EvtxEvtSeen {
-            number,
+        Err(refusal) => EvtxEvtSeen {
+            number: u32::from(refusal),
             length: 0,
             record_number: 0,
             written_time: 0,

@@ -6,19 +6,19 @@ ghost use Rattle.std.specs.Prelude.{◌≡◌, length};
 ghost use Rattle.rules.specs.Answers.{Answered};
 ghost use Rattle.rules.specs.RecordText.{text_of};
 ghost use Rattle.rules.specs.Index.{old, build, add};
+ghost use Rattle.refusal.specs.Refusals.{answer_number, answer_length};
 ghost use Rattle.binxml.specs.Text.{whole_text};
 ghost use Rattle.evtx.specs.Texts.{Counted};
 
 use records_c::{EvtxAnswer, EvtxText};
+use refusal::{Refusal, in_numbers};
 
 // The answer about a text.
-fn told(text: evtx::TextAnswer) -> EvtxText
-    ensures { (result.number ≡ text.number) × (result.length ≡ text.length) }
+fn text_answer(text: Result<usize, Refusal>) -> EvtxText
+    ensures { (result.number ≡ answer_number text) × (result.length ≡ answer_length text) }
 {
-    EvtxText {
-        number: text.number,
-        length: text.length as u64,
-    }
+    let (number, length) = in_numbers(text);
+    EvtxText { number, length }
 }
 
 // The text of a record.
@@ -26,7 +26,7 @@ fn told(text: evtx::TextAnswer) -> EvtxText
 pub extern "C" fn evtx_record_text(chunk: &[u8], offset: u64, out: &mut [u8]) -> EvtxText
     ensures { Answered (text_of chunk.now offset (length out.old)) out.old out.new result.number result.length }
 {
-    told(evtx::record_text(chunk, offset as usize, out))
+    text_answer(evtx::record_text(chunk, offset as usize, out))
 }
 
 // How long the text of a record is.
@@ -34,17 +34,15 @@ pub extern "C" fn evtx_record_text(chunk: &[u8], offset: u64, out: &mut [u8]) ->
 pub extern "C" fn evtx_text_length(chunk: &[u8], offset: u64) -> EvtxText
     ensures { Counted (whole_text chunk.now offset) result.number result.length }
 {
-    told(evtx::text_length(chunk, offset as usize))
+    text_answer(evtx::text_length(chunk, offset as usize))
 }
 
 // The answer about an index that is written.
-fn index_answer(built: index::IndexAnswer) -> EvtxAnswer
-    ensures { (result.number ≡ built.number) × (result.length ≡ built.length) }
+fn index_answer(built: Result<usize, Refusal>) -> EvtxAnswer
+    ensures { (result.number ≡ answer_number built) × (result.length ≡ answer_length built) }
 {
-    EvtxAnswer {
-        number: built.number,
-        length: built.length as u64,
-    }
+    let (number, length) = in_numbers(built);
+    EvtxAnswer { number, length }
 }
 
 // Builds the index of a chunk.

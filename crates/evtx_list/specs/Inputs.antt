@@ -1,9 +1,7 @@
 -- What the system's answer to an opening is.
-use Rattle.std.specs.Prelude.{ℤ, pos, negsuc}
-use Rattle.evtx_list.specs.declared.system.Opened.{Opened}
-use Rattle.evtx_list.specs.declared.system.Opened.TheVariants.{At, Not}
+use Rattle.std.specs.Prelude.{Option, Some, None, ℕ, ℤ, pos, negsuc}
 
 -- the input with a descriptor; none has one below 0
-abbrev pub opened_at : ℤ → Opened
-opened_at (pos n) = At n
-opened_at (negsuc n) = Not
+abbrev pub opened_at : ℤ → Option ℕ
+opened_at (pos n) = Some n
+opened_at (negsuc n) = None

@@ -36,35 +36,7 @@ impl Write for Output {
 }
 
 // Standard output and standard error.
-pub(crate) type Console = reads::Console<Output, Stderr>;
-
-// An input that can be read, by its descriptor; or it cannot, which was told.
-#[derive(Clone, Copy)]
-pub(crate) enum Opened {
-    At { input: u64 },
-    Not,
-}
-
-pub(crate) fn console(rt: &HostRuntime) -> Console {
-    Console {
-        output: Output {
-            to: rt.stdout(),
-            unread: false,
-        },
-        errors: rt.stderr(),
-    }
-}
-
-// The status of a program: where nobody reads its pipe any more, the one that a shell gives to a program that the signal of it ended, which the
-// start of a program turns off; else 0.
-pub(crate) fn status(console: Console) -> ExitCode {
-    let reads::Console { output, errors: _ } = console;
-    if output.unread {
-        ExitCode::from(141)
-    } else {
-        ExitCode::SUCCESS
-    }
-}
+type Console = reads::Console<'static, Output, Stderr>;
 
 // How many arguments there are, the program's own name among them. Each is asked for with room for no byte.
 pub(crate) fn argument_count(rt: &HostRuntime) -> usize {
@@ -94,14 +66,8 @@ fn number_of(refusal: FillError) -> i32 {
     }
 }
 
-// Says that an argument is not whole in the memory.
-pub(crate) fn not_whole(program: Program, console: &mut Console, refusal: FillError) {
-    let reason = Error::from_raw_os_error(number_of(refusal));
-    tell(program, console, b"an argument", &reason);
-}
-
 // The program's name as it stands before what is said on standard error.
-pub(crate) fn name_of(program: Program) -> &'static [u8] {
+fn name_of(program: Program) -> &'static [u8] {
     match program {
         Program::List => b"evtx_list: ",
         Program::Carve => b"evtx_carve: ",
@@ -109,42 +75,16 @@ pub(crate) fn name_of(program: Program) -> &'static [u8] {
     }
 }
 
-// Says on standard error what the system gave as the reason that something failed, after the program's name.
-pub(crate) fn tell(program: Program, console: &mut Console, what: &[u8], reason: &Error) {
-    reads::tell(&mut console.errors, name_of(program), what, reason);
-}
-
 // Whether someone would have to type a log.
 pub(crate) fn is_terminal(rt: &HostRuntime) -> bool {
     rt.stdin().is_terminal()
 }
 
-fn opened_at(descriptor: i32) -> Opened
+// The input with a descriptor; none has one below 0.
+fn opened_at(descriptor: i32) -> Option<u64>
     ensures { result ≡ opened_at descriptor }
 {
-    if descriptor < 0 {
-        return Opened::Not;
-    }
-    let input = descriptor as u64;
-    Opened::At { input }
-}
-
-// Whether an input can be read, and by which descriptor. That is asked by a read of no bytes: a directory, and an input that is closed, are no empty
-// log. Where it cannot be read, that is told.
-pub(crate) fn input_of<R: Read + AsRawFd>(
-    program: Program,
-    source: &mut R,
-    console: &mut Console,
-    name: &[u8],
-) -> Opened {
-    let mut none = [0u8; 0];
-    match source.read(&mut none) {
-        Ok(_) => opened_at(source.as_raw_fd()),
-        Err(reason) => {
-            tell(program, console, name, &reason);
-            Opened::Not
-        }
-    }
+    u64::try_from(descriptor).ok()
 }
 
 // Opens a file by its name. A name that is no text the library cannot hand to the system: it is refused with EILSEQ.
@@ -155,92 +95,23 @@ fn open_named(rt: &HostRuntime, name: &[u8]) -> io::Result<File> {
     }
 }
 
-// Opens a file to be read. Where that fails, it is told.
-pub(crate) fn open(
-    rt: &HostRuntime,
-    program: Program,
-    console: &mut Console,
-    name: &[u8],
-) -> Option<File> {
-    match open_named(rt, name) {
-        Ok(file) => Some(file),
-        Err(reason) => {
-            tell(program, console, name, &reason);
-            None
-        }
-    }
-}
-
-// Writes to standard error. Where that fails, nobody can be told.
-fn complain(console: &mut Console, text: &[u8]) {
-    let _ = console.errors.write_all(text);
-}
-
-// Says on standard error that an input is longer than a stream may be.
-pub(crate) fn too_long(console: &mut Console, name: &[u8]) {
-    complain(console, b"evtx_carve: ");
-    complain(console, name);
-    complain(console, b": longer than 1,099,511,627,776 bytes\n");
-}
-
-// Says on standard error that a chunk of an input has no index, with the number of the refusal.
-pub(crate) fn no_index(console: &mut Console, name: &[u8], k: u64, number: u32) {
-    let mut memory = [0u8; 64];
-    let end = line::index_line(&mut memory, 0, k, number);
-    complain(console, b"evtx_index: ");
-    complain(console, name);
-    complain(console, b": ");
-    complain(console, &memory[..end]);
-}
-
-// Writes lines to standard output, and answers whether that was done. Where it was not, that is told, but not that nobody reads a pipe any more.
-pub(crate) fn say(program: Program, console: &mut Console, text: &[u8]) -> bool {
-    match console.output.write_all(text) {
-        Ok(()) => true,
-        Err(reason) => {
-            if reason.kind() != ErrorKind::BrokenPipe {
-                tell(program, console, b"standard output", &reason);
-            }
-            false
-        }
-    }
-}
-
-// The line above the listing of one file among several.
-pub(crate) fn head(program: Program, console: &mut Console, name: &[u8]) -> bool {
-    if !say(program, console, name) {
-        return false;
-    }
-    say(program, console, b":\n")
-}
-
-pub(crate) fn usage(program: Program, console: &mut Console) {
+fn usage_of(program: Program) -> &'static [u8] {
     match program {
-        Program::List => complain(console, b"usage: evtx_list [--help | --version | FILE..]\n"),
-        Program::Carve => complain(
-            console,
-            b"usage: evtx_carve [--help | --version | FILE..]\n",
-        ),
-        Program::Index => complain(
-            console,
-            b"usage: evtx_index [--help | --version | [NUMBER] [FILE..]]\n",
-        ),
+        Program::List => b"usage: evtx_list [--help | --version | FILE..]\n",
+        Program::Carve => b"usage: evtx_carve [--help | --version | FILE..]\n",
+        Program::Index => b"usage: evtx_index [--help | --version | [NUMBER] [FILE..]]\n",
     }
 }
 
-pub(crate) fn version(program: Program, console: &mut Console) {
+fn version_of(program: Program) -> &'static [u8] {
     match program {
-        Program::List => say(program, console, b"evtx_list 0.6.0\n"),
-        Program::Carve => say(program, console, b"evtx_carve 0.6.0\n"),
-        Program::Index => say(program, console, b"evtx_index 0.6.0\n"),
-    };
+        Program::List => b"evtx_list 0.6.0\n",
+        Program::Carve => b"evtx_carve 0.6.0\n",
+        Program::Index => b"evtx_index 0.6.0\n",
+    }
 }
 
-fn help_of_list(program: Program, console: &mut Console) {
-    say(
-        program,
-        console,
-        b"\
+const HELP_OF_LIST: &[u8] = b"\
 usage: evtx_list [--help | --version | FILE..]
 
 Lists Windows XML event logs (EVTX): a line for the file header, one for each
@@ -254,15 +125,9 @@ its text or the number of its refusal.
 Where there are several, the listing of each begins with the line FILE: .
 What cannot be read or written is told on standard error. The manual page
 evtx_list(1) says what the numbers mean.
-",
-    );
-}
+";
 
-fn help_of_carve(program: Program, console: &mut Console) {
-    say(
-        program,
-        console,
-        b"\
+const HELP_OF_CARVE: &[u8] = b"\
 usage: evtx_carve [--help | --version | FILE..]
 
 Finds the whole records of Windows XML event logs (EVTX) in bytes of any size
@@ -277,15 +142,9 @@ with its place in the input and its size, as soon as later bytes cannot undo it.
 Where there are several, the lines of each begin with the line FILE: .
 What cannot be read or written is told on standard error. The manual page
 evtx_carve(1) says what a whole record is.
-",
-    );
-}
+";
 
-fn help_of_index(program: Program, console: &mut Console) {
-    say(
-        program,
-        console,
-        b"\
+const HELP_OF_INDEX: &[u8] = b"\
 usage: evtx_index [--help | --version | [NUMBER] [FILE..]]
 
 Builds the index of each chunk of Windows XML event logs (EVTX): a line for each
@@ -301,14 +160,133 @@ Where there are several, the lines of each begin with the line FILE: .
 What cannot be read or written is told on standard error, and so is, where a
 NUMBER is given, a chunk that has no index. The manual page evtx_index(1) says
 what the numbers mean.
-",
-    );
+";
+
+fn help_of(program: Program) -> &'static [u8] {
+    match program {
+        Program::List => HELP_OF_LIST,
+        Program::Carve => HELP_OF_CARVE,
+        Program::Index => HELP_OF_INDEX,
+    }
 }
 
-pub(crate) fn help(program: Program, console: &mut Console) {
-    match program {
-        Program::List => help_of_list(program, console),
-        Program::Carve => help_of_carve(program, console),
-        Program::Index => help_of_index(program, console),
+// A run of a program: which one it is, the record number that is asked of an index, if any, and where it writes. Only the indexing program looks
+// at that number.
+#[derive(Drop)]
+pub(crate) struct Run<'a> {
+    pub(crate) rt: &'a HostRuntime,
+    pub(crate) program: Program,
+    pub(crate) asked: Option<u64>,
+    pub(crate) console: Console,
+}
+
+impl<'a> Run<'a> {
+    pub(crate) fn new(rt: &'a HostRuntime, program: Program, asked: Option<u64>) -> Self {
+        Run {
+            rt,
+            program,
+            asked,
+            console: Console {
+                output: Output {
+                    to: rt.stdout(),
+                    unread: false,
+                },
+                errors: rt.stderr(),
+                program: name_of(program),
+            },
+        }
+    }
+
+    // The status of a program: where nobody reads its pipe any more, the one that a shell gives to a program that the signal of it ended, which the
+    // start of a program turns off; else 0.
+    pub(crate) fn status(self) -> ExitCode {
+        if self.console.output.unread {
+            ExitCode::from(141)
+        } else {
+            ExitCode::SUCCESS
+        }
+    }
+
+    // Says on standard error what the system gave as the reason that something failed, after the program's name.
+    fn tell(&mut self, what: &[u8], reason: &Error) {
+        reads::tell(&mut self.console, what, reason);
+    }
+
+    // Says that an argument is not whole in the memory.
+    pub(crate) fn not_whole(&mut self, refusal: FillError) {
+        let reason = Error::from_raw_os_error(number_of(refusal));
+        self.tell(b"an argument", &reason);
+    }
+
+    // Whether an input can be read, and by which descriptor. That is asked by a read of no bytes: a directory, and an input that is closed, are no
+    // empty log. Where it cannot be read, that is told.
+    pub(crate) fn input_of<R: Read + AsRawFd>(
+        &mut self,
+        source: &mut R,
+        name: &[u8],
+    ) -> Option<u64> {
+        let mut none = [0u8; 0];
+        match source.read(&mut none) {
+            Ok(_) => opened_at(source.as_raw_fd()),
+            Err(reason) => {
+                self.tell(name, &reason);
+                None
+            }
+        }
+    }
+
+    // Opens a file to be read. Where that fails, it is told.
+    pub(crate) fn open(&mut self, name: &[u8]) -> Option<File> {
+        match open_named(self.rt, name) {
+            Ok(file) => Some(file),
+            Err(reason) => {
+                self.tell(name, &reason);
+                None
+            }
+        }
+    }
+
+    // Writes to standard error. Where that fails, nobody can be told.
+    fn complain(&mut self, text: &[u8]) {
+        let _ = self.console.errors.write_all(text);
+    }
+
+    // Says on standard error that an input is longer than a stream may be.
+    pub(crate) fn too_long(&mut self, name: &[u8]) {
+        self.complain(name_of(self.program));
+        self.complain(name);
+        self.complain(b": longer than 1,099,511,627,776 bytes\n");
+    }
+
+    // Says on standard error that a chunk of an input has no index, with the number of the refusal.
+    pub(crate) fn no_index(&mut self, name: &[u8], k: u64, number: u32) {
+        let mut memory = [0u8; 64];
+        let end = line::index_line(&mut memory, 0, k, number);
+        self.complain(name_of(self.program));
+        self.complain(name);
+        self.complain(b": ");
+        self.complain(&memory[..end]);
+    }
+
+    // Writes lines to standard output, and answers whether that was done. Where it was not, that is told, but not that nobody reads a pipe any more.
+    pub(crate) fn say(&mut self, text: &[u8]) -> bool {
+        reads::say(&mut self.console, text)
+    }
+
+    // The line above the listing of one file among several.
+    pub(crate) fn head(&mut self, name: &[u8]) -> bool {
+        self.say(name) && self.say(b":\n")
+    }
+
+    pub(crate) fn usage(&mut self) {
+        self.complain(usage_of(self.program));
+    }
+
+    pub(crate) fn version(&mut self) {
+        self.say(version_of(self.program));
+    }
+
+    pub(crate) fn help(&mut self) {
+        self.say(help_of(self.program));
     }
 }

@@ -26,13 +26,13 @@ fn with(sums: Sums, n: u64) -> Sums
 fn over(sums: Sums, bytes: &[u8]) -> Sums
     ensures { result ≡ summed sums bytes.now }
 {
+    let words = bytes.chunks_exact(8);
+    let rest = words.remainder();
     let mut s = sums;
-    let mut i = 0;
-    while 8 <= bytes.len() - i {
-        s = with(s, octets::eight(bytes, i));
-        i += 8;
+    for word in words {
+        s = with(s, octets::eight(word, 0));
     }
-    with(with(s, octets::eight(bytes, i)), bytes.len() as u64)
+    with(with(s, octets::eight(rest, 0)), bytes.len() as u64)
 }
 
 // The sums after some more bytes, and then a number.

@@ -1,29 +1,28 @@
 -- What `put_sid` answers and leaves, against `sid_size` and `sid` of rules.
 --     sid_meaning : document 01's number and value for each answer
 --     PutSid fits o out at out' r : whether the size is that of a Sid, and the text of the content, or none, give the answer r and the memory out'
-use Rattle.std.specs.Prelude.{◌≡◌, Bool, true, false, List, ℕ, length, if◌then◌else◌}
+use Rattle.std.specs.Prelude.{◌≡◌, Bool, true, false, List, ℕ, length, if◌then◌else◌, Result, Ok, Err}
 use Rattle.std.proofs.Math.Option.{Option, none, some}
 use Rattle.output.specs.Output.{adv}
 use Rattle.rules.specs.Bytes.{Text}
 use Rattle.rules.specs.Answers.{Outcome, value, refusal, wrong_value}
 use Rattle.calendar.specs.Times.{place_after, leaves}
-use Rattle.identifiers.specs.declared.sid.Sid.{Sid}
-use Rattle.identifiers.specs.declared.sid.Sid.TheVariants.{Done, WrongSize, WrongContent}
+use Rattle.identifiers.specs.declared.sid.WrongSid.{WrongSid}
+use Rattle.identifiers.specs.declared.sid.WrongSid.TheVariants.{Size, Content}
 
 -- what each answer means: the place after the text, or 11
-abbrev pub sid_meaning : Sid → Outcome ℕ
-sid_meaning (Done at) = value at
-sid_meaning WrongSize = refusal wrong_value
-sid_meaning WrongContent = refusal wrong_value
+abbrev pub sid_meaning : Result ℕ WrongSid → Outcome ℕ
+sid_meaning (Ok at) = value at
+sid_meaning (Err cause) = refusal wrong_value
 
 -- the answer for each cause, in a memory of so many bytes
-abbrev pub sid_answer : ℕ → ℕ → Bool → Option Text → Sid
-sid_answer room at false o = WrongSize
-sid_answer room at true none = WrongContent
-sid_answer room at true (some t) = Done (adv room at (length t))
+abbrev pub sid_answer : ℕ → ℕ → Bool → Option Text → Result ℕ WrongSid
+sid_answer room at false o = Err Size
+sid_answer room at true none = Err Content
+sid_answer room at true (some t) = Ok (adv room at (length t))
 
 -- what is promised of a Sid's text at a place
-pub record PutSid (fits : Bool) (o : Option Text) (out : List ℕ) (at : ℕ) (out' : List ℕ) (r : Sid) : Type 0 where
+pub record PutSid (fits : Bool) (o : Option Text) (out : List ℕ) (at : ℕ) (out' : List ℕ) (r : Result ℕ WrongSid) : Type 0 where
   -- the answer means the place after the text, or 11
   pub meaning : sid_meaning r ≡ place_after (length out) at (if fits then o else none)
   -- and it is the one for the cause: size or content

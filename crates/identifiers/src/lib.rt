@@ -5,4 +5,4 @@ mod guid;
 mod sid;
 
 pub use guid::put_guid;
-pub use sid::{Sid, put_sid};
+pub use sid::{WrongSid, put_sid};

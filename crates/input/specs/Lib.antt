@@ -1,3 +1,4 @@
 pub mod Streams
+pub mod Tally
 pub mod State
 pub mod Whole

@@ -7,10 +7,13 @@ ghost use Rattle.rules.specs.Answers.{Answered};
 ghost use Rattle.rules.specs.Records.{search_chunk, search_bytes};
 ghost use Rattle.rules.specs.Stream.{feed, close, StreamAnswered};
 ghost use Rattle.rules.specs.Index.{old, entry_at, find};
-ghost use Rattle.entries.specs.Answers.{found_meaning};
+ghost use Rattle.refusal.specs.Refusals.{outcome_by, answer_number, answer_length};
+ghost use Rattle.entries.specs.Answers.{placed_of};
 ghost use Rattle.lists_c.specs.Answers.{entry_in};
 
+use entries::{Form, Found};
 use records_c::EvtxAnswer;
+use refusal::Refusal;
 
 #[repr(C)]
 #[derive(Clone, Copy)]
@@ -24,14 +27,12 @@ pub struct EvtxEntry {
     pub refusal: u32,
 }
 
-// The answer of a search.
-fn search_answer(found: search::SearchAnswer) -> EvtxAnswer
-    ensures { (result.number ≡ found.number) × (result.length ≡ found.count) }
+// The answer of a search, or of a call on a stream: how many records it listed.
+fn counted(count: Result<usize, Refusal>) -> EvtxAnswer
+    ensures { (result.number ≡ answer_number count) × (result.length ≡ answer_length count) }
 {
-    EvtxAnswer {
-        number: found.number,
-        length: found.count as u64,
-    }
+    let (number, length) = refusal::in_numbers(count);
+    EvtxAnswer { number, length }
 }
 
 // Lists the records of a chunk.
@@ -40,7 +41,7 @@ pub extern "C" fn evtx_search_chunk(chunk: &[u8], offsets: &mut [u32]) -> EvtxAn
     ensures { Answered (search_chunk chunk.now (length offsets.old)) offsets.old offsets.new result.number
         result.length }
 {
-    search_answer(search::search_chunk(chunk, offsets))
+    counted(search::search_chunk(chunk, offsets))
 }
 
 // Lists the records of loose bytes.
@@ -49,17 +50,7 @@ pub extern "C" fn evtx_search_bytes(bytes: &[u8], offsets: &mut [u32]) -> EvtxAn
     ensures { Answered (search_bytes bytes.now (length offsets.old)) offsets.old offsets.new result.number
         result.length }
 {
-    search_answer(search::search_bytes(bytes, offsets))
-}
-
-// The answer of a call on a stream.
-fn stream_answer(answer: stream::StreamAnswer) -> EvtxAnswer
-    ensures { (result.number ≡ answer.number) × (result.length ≡ answer.count) }
-{
-    EvtxAnswer {
-        number: answer.number,
-        length: answer.count as u64,
-    }
+    counted(search::search_bytes(bytes, offsets))
 }
 
 // Takes a packet of a stream, and lists the records that no later bytes can undo.
@@ -68,7 +59,7 @@ pub extern "C" fn evtx_feed(packet: &[u8], store: &mut [u8], list: &mut [u64]) -
     ensures { StreamAnswered (feed store.old packet.now (length list.old / 2)) list.old
         list.new store.old store.new result.number result.length }
 {
-    stream_answer(stream::feed(packet, store, list))
+    counted(stream::feed(packet, store, list))
 }
 
 // Closes a stream, and lists the rest of its records.
@@ -77,32 +68,25 @@ pub extern "C" fn evtx_close(store: &mut [u8], list: &mut [u64]) -> EvtxAnswer
     ensures { StreamAnswered (close store.old (length list.old / 2)) list.old list.new
         store.old store.new result.number result.length }
 {
-    stream_answer(stream::close(store, list))
+    counted(stream::close(store, list))
 }
 
 // The answer that tells an entry.
-fn entry_answer(found: entries::Found) -> EvtxEntry
-    ensures { result ≡ entry_in (found_meaning found) }
+fn entry_answer(found: Result<Found, Refusal>) -> EvtxEntry
+    ensures { result ≡ entry_in (outcome_by placed_of found) }
 {
     match found {
-        entries::Found::Is {
-            position,
-            chunk,
-            offset,
-            size,
-            record_number,
-            refusal,
-        } => EvtxEntry {
+        Ok(entry) => EvtxEntry {
             number: 0,
-            position: position as u64,
-            chunk_number: chunk,
-            offset,
-            size,
-            record_number,
-            refusal,
+            position: entry.position as u64,
+            chunk_number: entry.chunk,
+            offset: entry.offset,
+            size: entry.size,
+            record_number: entry.record_number,
+            refusal: entry.refusal,
         },
-        entries::Found::Refused { number } => EvtxEntry {
-            number,
+        Err(refusal) => EvtxEntry {
+            number: u32::from(refusal),
             position: 0,
             chunk_number: 0,
             offset: 0,
@@ -118,7 +102,7 @@ fn entry_answer(found: entries::Found) -> EvtxEntry
 pub extern "C" fn evtx_index_entry(index: &[u8], position: u64) -> EvtxEntry
     ensures { result ≡ entry_in (entry_at old index.now position) }
 {
-    entry_answer(entries::entry_at(index, entries::Form::Old, position as usize))
+    entry_answer(entries::entry_at(index, Form::Old, position as usize))
 }
 
 // The first entry of an index with a record number.
@@ -126,5 +110,5 @@ pub extern "C" fn evtx_index_entry(index: &[u8], position: u64) -> EvtxEntry
 pub extern "C" fn evtx_index_find(index: &[u8], record_number: u64) -> EvtxEntry
     ensures { result ≡ entry_in (find old index.now record_number) }
 {
-    entry_answer(entries::find(index, entries::Form::Old, record_number))
+    entry_answer(entries::find(index, Form::Old, record_number))
 }

@@ -32,7 +32,7 @@ module _ (b : List ℕ) (n top : ℕ) (is : n ≡ number b) (range : top + 1 ≡
       (ap (λ (m : ℕ). ascii "-" ++ decimal m) (let e : top + 1 - n ≡ top - n + 1 = omega arith in e))
 
 -- a byte more at the top of the largest number
-pub larger : (top i w : ℕ) → top + 1 ≡ 256 ^ i → i < w → w ≤ 8 → (top * 256 + 255 + 1 ≡ 256 ^ (i + 1)) × (top * 256 + 255 < 2 ^ 64)
-larger top i w e h g =
+pub larger : (top i : ℕ) → top + 1 ≡ 256 ^ i → i < 8 → (top * 256 + 255 + 1 ≡ 256 ^ (i + 1)) × (top * 256 + 255 < 2 ^ 64)
+larger top i e h =
     let p : 256 ^ suc i ≤ 256 ^ 8 = pow-le-pow_right {n = 256} (lit< tt) {j = 8} (omega arith) in
     (rw (add-one i) (omega arith), omega arith)

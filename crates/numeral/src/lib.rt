@@ -1,17 +1,16 @@
 // Integers of up to 8 bytes as text, decimal and hexadecimal, once over the width; and bytes as pairs of hex digits.
 #![tactic(auto)]
 
-ghost use Rattle.std.specs.Prelude.{◌≡◌, ◌+◌, ◌^◌, ◌≤◌, length, take};
+ghost use Rattle.std.specs.Prelude.{◌≡◌, ◌+◌, ◌^◌, length, take};
 ghost use Rattle.output.specs.Output.{Wrote};
-ghost use Rattle.laws.specs.Tables.{tabled};
 ghost use Rattle.rules.specs.Bytes.{number};
-ghost use Rattle.rules.specs.Numerals.{upper, upper_hex, unsigned, signed, all_hex, hex_pairs};
+ghost use Rattle.rules.specs.Numerals.{upper_hex, unsigned, signed, all_hex, hex_pairs};
 
 // The width that a number of these bytes is read with: all of them, up to 8.
 fn width(src: &[u8]) -> usize
     ensures { result ≡ length (take 8 src.now) }
 {
-    if src.len() < 8 { src.len() } else { 8 }
+    src.len().min(8)
 }
 
 // The number that the bytes hold, of 8 bytes at most.
@@ -21,16 +20,14 @@ fn number_of(src: &[u8]) -> u64
     octets::number_at(src, 0, 8)
 }
 
-// The largest number that fits w bytes.
-fn largest(w: usize) -> u64
-    requires { w ≤ 8 }
-    ensures { result + 1 ≡ 256 ^ w }
+// The largest number of that width.
+#[tactic(auto, using(crate::proofs::Integers::larger))]
+fn largest(src: &[u8]) -> u64
+    ensures { result + 1 ≡ 256 ^ length (take 8 src.now) }
 {
     let mut top: u64 = 0;
-    let mut i = 0;
-    while i < w {
+    for _ in 0..width(src) {
         top = top * 256 + 255;
-        i += 1;
     }
     top
 }
@@ -47,7 +44,7 @@ pub fn put_signed(out: &mut [u8], at: usize, src: &[u8]) -> usize
     ensures { Wrote out.old at (signed (take 8 src.now)) out.new result }
 {
     let n = number_of(src);
-    let top = largest(width(src));
+    let top = largest(src);
     if n <= top / 2 {
         return digits::put_decimal(out, at, n);
     }
@@ -62,14 +59,16 @@ pub fn put_all_hex(out: &mut [u8], at: usize, src: &[u8]) -> usize
     digits::put_hex(out, at, 2 * width(src), number_of(src))
 }
 
+// The upper-case hex digits.
+const HEX: &[u8; 16] = b"0123456789ABCDEF";
+
 // A byte as two hex digits, out of the table of upper-case ones.
-fn put_pair(out: &mut [u8], at: usize, table: &[u8; 16], b: u8) -> usize
-    requires { table.now ≡ tabled upper 16 }
+fn put_pair(out: &mut [u8], at: usize, b: u8) -> usize
     ensures { Wrote out.old at (upper_hex 2 b) out.new result }
 {
     let n = b as usize;
-    let place = output::put(out, at, table[n / 16]);
-    output::put(out, place, table[n % 16])
+    let place = output::put(out, at, HEX[n / 16]);
+    output::put(out, place, HEX[n % 16])
 }
 
 // Each byte as a pair of upper-case hex digits.
@@ -79,12 +78,9 @@ pub fn put_pairs(out: &mut [u8], at: usize, src: &[u8]) -> usize
     if out.len() <= at {
         return output::skip(out.len(), at, 2 * src.len());
     }
-    let table = b"0123456789ABCDEF";
     let mut place = at;
-    let mut i = 0;
-    while i < src.len() {
-        place = put_pair(out, place, table, src[i]);
-        i += 1;
+    for &b in src {
+        place = put_pair(out, place, b);
     }
     place
 }

@@ -49,18 +49,10 @@ fn some_in(s: &[u8], p: usize, w: usize) -> u64
     ensures { result ≡ number_at p w s.now }
 {
     let mut v: u64 = 0;
-    let mut i = w;
-    while 0 < i {
-        i -= 1;
+    for i in (0..w).rev() {
         v = wide(s[p + i]) + v * 256;
     }
     v
-}
-
-fn smaller(a: usize, b: usize) -> usize
-    ensures { result ≡ min a b }
-{
-    if a < b { a } else { b }
 }
 
 // The number in the n bytes at p, or in 8 where n is more.
@@ -70,7 +62,7 @@ pub fn number_at(s: &[u8], p: usize, n: u8) -> u64
     if s.len() <= p {
         return 0;
     }
-    match smaller(smaller(8, n as usize), s.len() - p) {
+    match 8.min(n as usize).min(s.len() - p) {
         2 => two_in(s, p),
         4 => four_in(s, p),
         8 => eight_in(s, p),
@@ -121,15 +113,5 @@ pub fn same_at(s: &[u8], i: usize, known: &[u8]) -> bool
     if s.len() < i {
         return known.len() == 0;
     }
-    if s.len() - i < known.len() {
-        return false;
-    }
-    let mut k = 0;
-    while k < known.len() {
-        if s[i + k] != known[k] {
-            return false;
-        }
-        k += 1;
-    }
-    true
+    s[i..].starts_with(known)
 }

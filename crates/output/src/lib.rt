@@ -55,10 +55,8 @@ pub fn put_text(out: &mut [u8], at: usize, src: &[u8]) -> usize
     ensures { Wrote out.old at src.now out.new result }
 {
     let mut place = at;
-    let mut i = 0;
-    while i < src.len() {
-        place = put(out, place, src[i]);
-        i += 1;
+    for &b in src {
+        place = put(out, place, b);
     }
     place
 }
@@ -67,9 +65,5 @@ pub fn put_text(out: &mut [u8], at: usize, src: &[u8]) -> usize
 pub fn clear(out: &mut [u8])
     ensures { out.new ≡ replicate (length out.old) 0 }
 {
-    let mut k = 0;
-    while k < out.len() {
-        out[k] = 0;
-        k += 1;
-    }
+    out.fill(0);
 }

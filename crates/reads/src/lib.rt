@@ -11,23 +11,22 @@ ghost use Rattle.std.specs.Io.KnownBytes.{Consumes};
 ghost use Rattle.reads.specs.Counts.{IsPrefixLen};
 ghost use Rattle.reads.specs.Descriptors.{descriptor_of};
 
-pub use crate::messages::{Console, tell};
+pub use crate::messages::{Console, say, tell};
 use std::io::{Read, Write};
 
 // The system's descriptor of an input; one that no file has where the number is none.
 pub fn descriptor(input: u64) -> i32
     ensures { result ≡ descriptor_of input }
 {
-    if input < 2147483648 { input as i32 } else { -1 }
+    i32::try_from(input).unwrap_or(-1)
 }
 
 // One read into the memory from a place on. A read that fails is told, and is then like the end of the input.
-fn read_from<R: Read, E: Write>(
+fn read_from<R: Read, W, E: Write>(
     memory: &mut [u8],
     from: usize,
     input: &mut R,
-    errors: &mut E,
-    program: &[u8],
+    console: &mut Console<'_, W, E>,
     name: &[u8],
 ) -> usize
     requires { from ≤ length memory.old }
@@ -38,33 +37,31 @@ fn read_from<R: Read, E: Write>(
     match input.read(&mut memory[from..]) {
         Ok(count) => count,
         Err(reason) => {
-            tell(errors, program, name, &reason);
+            tell(console, name, &reason);
             0
         }
     }
 }
 
 // One read into the front of the memory.
-pub fn read<R: Read, E: Write>(
+pub fn read<R: Read, W, E: Write>(
     memory: &mut [u8],
     input: &mut R,
-    errors: &mut E,
-    program: &[u8],
+    console: &mut Console<'_, W, E>,
     name: &[u8],
 ) -> usize
     ensures inside { IsPrefixLen result memory.new }
     ensures bytes { Consumes (R.remaining input.old) (R.remaining input.new) (take result memory.new) }
 {
-    read_from(memory, 0, input, errors, program, name)
+    read_from(memory, 0, input, console, name)
 }
 
 // Reads until the memory is full or the input ends, and answers how many bytes then stand at its front. After the end nothing more is read,
 // so that a terminal ends its input once.
-pub fn fill<R: Read, E: Write>(
+pub fn fill<R: Read, W, E: Write>(
     memory: &mut [u8],
     input: &mut R,
-    errors: &mut E,
-    program: &[u8],
+    console: &mut Console<'_, W, E>,
     name: &[u8],
 ) -> usize
     ensures inside { IsPrefixLen result memory.new }
@@ -72,7 +69,7 @@ pub fn fill<R: Read, E: Write>(
 {
     let mut count = 0;
     while count < memory.len() {
-        let more = read_from(memory, count, input, errors, program, name);
+        let more = read_from(memory, count, input, console, name);
         if more == 0 {
             return count;
         }

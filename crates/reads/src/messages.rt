@@ -1,13 +1,15 @@
 // Where a program writes, and what it says of a read or a write that failed: its own name, what failed, and the reason.
-ghost use Rattle.std.specs.Prelude.{◌≤◌, length};
+ghost use Rattle.std.specs.Prelude.{◌≤◌, length, IsTrue};
+ghost use Rattle.std.specs.Io.KnownBytes.{Appends};
 
-use std::io::{Cursor, Error, Write};
+use std::io::{Cursor, Error, ErrorKind, Write};
 
-// Where a program writes what it was asked for, and where it says what failed.
+// Where a program writes what it was asked for, and where it says what failed: its own name stands before that.
 #[derive(Drop)]
-pub struct Console<W, E> {
+pub struct Console<'a, W, E> {
     pub output: W,
     pub errors: E,
+    pub program: &'a [u8],
 }
 
 // How many bytes stand before the number of an error that std writes after the system's own words.
@@ -33,10 +35,26 @@ fn put_reason<E: Write>(errors: &mut E, reason: &Error) {
 }
 
 // Says what failed, after the program's own name, and why. Where that cannot be written, nobody can be told.
-pub fn tell<E: Write>(errors: &mut E, program: &[u8], what: &[u8], reason: &Error) {
-    let _ = errors.write_all(program);
-    let _ = errors.write_all(what);
-    let _ = errors.write_all(b": ");
-    put_reason(errors, reason);
-    let _ = errors.write_all(b"\n");
+pub fn tell<W, E: Write>(console: &mut Console<'_, W, E>, what: &[u8], reason: &Error) {
+    let _ = console.errors.write_all(console.program);
+    let _ = console.errors.write_all(what);
+    let _ = console.errors.write_all(b": ");
+    put_reason(&mut console.errors, reason);
+    let _ = console.errors.write_all(b"\n");
+}
+
+// Writes to standard output, and answers whether all bytes were taken. A failure is told, but not that nobody reads a pipe any more: there the
+// program says nothing, as one that the system ends for it.
+pub fn say<W: Write, E: Write>(console: &mut Console<'_, W, E>, text: &[u8]) -> bool
+    ensures { IsTrue result → Appends (W.contents console.old.output) (W.contents console.new.output) text.now }
+{
+    match console.output.write_all(text) {
+        Ok(()) => true,
+        Err(reason) => {
+            if reason.kind() != ErrorKind::BrokenPipe {
+                tell(console, b"standard output", &reason);
+            }
+            false
+        }
+    }
 }

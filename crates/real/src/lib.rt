@@ -24,8 +24,7 @@ fn rounded(n: u64, s: u64) -> u64
     }
     let whole = n >> s;
     let rest = n - (whole << s);
-    let one: u64 = 1;
-    let divisor = one << s;
+    let divisor = 1u64 << s;
     if rest + rest < divisor {
         return whole;
     }
@@ -88,13 +87,11 @@ fn in_thousandths(double: bool, bits: u64) -> u64
 fn put_sign(out: &mut [u8], at: usize, negative: bool, t: u64) -> usize
     ensures { Wrote out.old at (sign_text negative t) out.new result }
 {
-    if negative {
-        if t == 0 {
-            return at;
-        }
-        return output::put(out, at, b'-');
+    if negative && t != 0 {
+        output::put(out, at, b'-')
+    } else {
+        at
     }
-    at
 }
 
 // Three places.

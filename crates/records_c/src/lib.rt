@@ -5,8 +5,10 @@
 ghost use Rattle.std.specs.Prelude.{◌≡◌};
 ghost use Rattle.rules.specs.Headers.{check_file_header, check_chunk, free_space_of};
 ghost use Rattle.rules.specs.Records.{next_in_chunk, next_in_bytes, size_in_chunk, size_in_bytes, stretch_of, fields_of};
-ghost use Rattle.record.specs.Asked.{next_meaning, size_meaning};
+ghost use Rattle.refusal.specs.Refusals.{outcome, answer_number};
 ghost use Rattle.records_c.specs.Answers.{checked, size_in, found_of, stretch_in, fields_in};
+
+use refusal::Refusal;
 
 #[repr(C)]
 #[derive(Clone, Copy)]
@@ -46,36 +48,38 @@ pub struct EvtxFields {
 }
 
 // The answer of a check, which has a number and no length.
-fn answer_of(number: u32) -> EvtxAnswer
-    ensures { result ≡ checked number }
+fn answer_of(check: Result<(), Refusal>) -> EvtxAnswer
+    ensures { result ≡ checked (answer_number check) }
 {
+    let number = refusal::number_of(check);
     EvtxAnswer { number, length: 0 }
 }
 
-// The answer that tells where the next record stands.
-fn found_at(next: record::Next) -> EvtxFound
-    ensures { result ≡ found_of (next_meaning next) }
+// The answer that tells where the next record stands, or the free space.
+fn found_at(offset: Result<u64, Refusal>) -> EvtxFound
+    ensures { result ≡ found_of (outcome offset) }
 {
-    match next {
-        record::Next::At { offset } => EvtxFound {
-            number: 0,
-            offset: offset as u64,
-        },
-        record::Next::Refused { number } => EvtxFound { number, offset: 0 },
+    EvtxFound {
+        number: refusal::number_of(offset),
+        offset: offset.unwrap_or(0),
     }
 }
 
 // The answer that tells the size of a record.
-fn size_answer(size: record::Size) -> EvtxAnswer
-    ensures { result ≡ size_in (size_meaning size) }
+fn size_answer(size: Result<usize, Refusal>) -> EvtxAnswer
+    ensures { result ≡ size_in (outcome size) }
 {
-    match size {
-        record::Size::Is { size } => EvtxAnswer {
-            number: 0,
-            length: size as u64,
-        },
-        record::Size::Refused { number } => EvtxAnswer { number, length: 0 },
+    EvtxAnswer {
+        number: refusal::number_of(size),
+        length: size.unwrap_or(0) as u64,
     }
+}
+
+// An offset in the width that C has for it.
+fn wide(offset: Result<usize, Refusal>) -> Result<u64, Refusal>
+    ensures { result ≡ offset }
+{
+    offset.map(|at| at as u64)
 }
 
 // Checks a file header.
@@ -96,24 +100,21 @@ pub fn evtx_check_chunk(chunk: &[u8]) -> EvtxAnswer
 pub fn evtx_free_space_offset(chunk: &[u8]) -> EvtxFound
     ensures { result ≡ found_of (free_space_of chunk.now) }
 {
-    match header::free_space(chunk) {
-        header::Free::From { offset } => EvtxFound { number: 0, offset },
-        header::Free::Refused { number } => EvtxFound { number, offset: 0 },
-    }
+    found_at(header::free_space(chunk))
 }
 
 // The next record of a chunk.
 pub fn evtx_next_in_chunk(chunk: &[u8], from: u64) -> EvtxFound
     ensures { result ≡ found_of (next_in_chunk chunk.now from) }
 {
-    found_at(record::next_in_chunk(chunk, from as usize))
+    found_at(wide(record::next_in_chunk(chunk, from as usize)))
 }
 
 // The next record of loose bytes.
 pub fn evtx_next_in_bytes(bytes: &[u8], from: u64) -> EvtxFound
     ensures { result ≡ found_of (next_in_bytes bytes.now from) }
 {
-    found_at(record::next_in_bytes(bytes, from as usize))
+    found_at(wide(record::next_in_bytes(bytes, from as usize)))
 }
 
 // The size of a record of a chunk.
@@ -135,13 +136,13 @@ pub fn evtx_record_stretch(chunk: &[u8], offset: u64) -> EvtxStretch
     ensures { result ≡ stretch_in (stretch_of chunk.now offset) }
 {
     match record::record_stretch(chunk, offset as usize) {
-        record::Stretch::At { offset, len } => EvtxStretch {
+        Ok(stretch) => EvtxStretch {
             number: 0,
-            offset: offset as u64,
-            length: len as u64,
+            offset: stretch.offset as u64,
+            length: stretch.len as u64,
         },
-        record::Stretch::Refused { number } => EvtxStretch {
-            number,
+        Err(refusal) => EvtxStretch {
+            number: u32::from(refusal),
             offset: 0,
             length: 0,
         },
@@ -153,16 +154,13 @@ pub fn evtx_record_fields(chunk: &[u8], offset: u64) -> EvtxFields
     ensures { result ≡ fields_in (fields_of chunk.now offset) }
 {
     match record::record_fields(chunk, offset as usize) {
-        record::Fields::Are {
-            record_number,
-            written_time,
-        } => EvtxFields {
+        Ok(fields) => EvtxFields {
             number: 0,
-            record_number,
-            written_time,
+            record_number: fields.record_number,
+            written_time: fields.written_time,
         },
-        record::Fields::Refused { number } => EvtxFields {
-            number,
+        Err(refusal) => EvtxFields {
+            number: u32::from(refusal),
             record_number: 0,
             written_time: 0,
         },

@@ -1,17 +1,17 @@
 -- Characters as they are written: which are written as themselves.
-use Rattle.std.specs.Prelude.{◌≡◌, Bool, true, false, ◌&&◌, not, List, [], ◌∷◌, ℕ, ◌+◌, ◌<◌, eqb, leb}
+use Rattle.std.specs.Prelude.{◌≡◌, Option, None, Bool, true, false, ◌&&◌, not, List, [], ◌∷◌, ℕ, ◌+◌, ◌<◌, eqb, leb}
 use Rattle.laws.specs.Tables.{tabled}
 use Rattle.rules.specs.Strings.{all_shown}
-use Rattle.utf16.specs.Carry.{carried, completed, carry_of}
+use Rattle.utf16.specs.Carry.{carried, completed}
 
 -- the unit, with nothing carried over, is written as itself, and carries nothing over
-pub record Plainly (carry u : ℕ) : Type 0 where
-  pub none : carry ≡ 0
+pub record Plainly (carry : Option ℕ) (u : ℕ) : Type 0 where
+  pub none : carry ≡ None
   pub small : u < 128
-  pub next : carry_of carry ≡ carried u
-  pub itself : all_shown (completed (carry_of carry) u) ≡ u ∷ []
+  pub next : carry ≡ carried u
+  pub itself : all_shown (completed carry u) ≡ u ∷ []
 
-abbrev pub PlainlyIf : Bool → ℕ → ℕ → Type 0
+abbrev pub PlainlyIf : Bool → Option ℕ → ℕ → Type 0
 PlainlyIf true carry u = Plainly carry u
 PlainlyIf false carry u = Unit {0}
 

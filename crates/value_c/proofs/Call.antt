@@ -12,9 +12,12 @@ use Rattle.output.proofs.Output.{top_none, emit_fits}
 use Rattle.rules.specs.Answers.{value, number_of, refusal, wrong_value, room_too_small, Answered}
 use Rattle.rules.specs.Values.{Written, written, wrong_type, wrong_size, wrong_content}
 use Rattle.calendar.specs.Times.{place_after}
-use Rattle.value.specs.Value.{put_meaning, text_in, PutValue}
-use Rattle.value.specs.declared.Put.{Put}
-use Rattle.value.specs.declared.Put.TheVariants.{Done}
+use Rattle.std.specs.Prelude.{Result, Ok, Err}
+use Rattle.refusal.specs.Refusals.{answer_number, answer_length}
+use Rattle.refusal.specs.declared.Refusal.{Refusal}
+use Rattle.refusal.specs.declared.Refusal.TheVariants as Refusal·
+use Rattle.value.specs.Value.{text_in, PutValue}
+use Rattle.value.specs.declared.WrongValue.{WrongValue}
 use Rattle.value_c.specs.Call.{outcome}
 
 empty : (o : List ℕ) → length o ≡ 0 → o ≡ []
@@ -30,7 +33,8 @@ refused wrong_content room e = refl
 -- a first run that is not refused has counted a text: it does not fit, or the second run leaves it
 told : (w : Written) (out : List ℕ) {at : ℕ} → value at ≡ place_after 0 0 (text_in w)
     → (length out < at → Answered (outcome (length out) w) out out room_too_small 0)
-    × ((out' : List ℕ) (r : Put) → at ≤ length out → length out * 1 < 2 ^ 63 → PutValue w out 0 out' r → Answered (outcome (length out) w) out out' 0 at)
+    × ((out' : List ℕ) (r : Result ℕ WrongValue) → at ≤ length out → length out * 1 < 2 ^ 63 → PutValue w out 0 out' r
+    → Answered (outcome (length out) w) out out' 0 at)
 unfolding adv
 told (written t) out {at} e =
     let free = top_none in
@@ -45,15 +49,15 @@ told wrong_type out e = absurd (let z = ap number_of e in omega arith)
 told wrong_size out e = absurd (let z = ap number_of e in omega arith)
 told wrong_content out e = absurd (let z = ap number_of e in omega arith)
 
-module _ {w : Written} {out none : List ℕ} {r : Put} (kept : length none ≡ 0) (first : PutValue w [] 0 none r) where
-  pub told_refused : {q : Put} → r ≡ q → put_meaning q ≡ refusal wrong_value → Answered (outcome (length out) w) out (none ++ out) wrong_value 0
-  told_refused e n = rw (empty none kept, refused w (length out) (sym first.meaning ∙ ap put_meaning e ∙ n))
-      (record { number_is = refl; length_is = refl; memory = refl })
+module _ {w : Written} {out none : List ℕ} (kept : length none ≡ 0) where
+  pub told_refused : {cause : WrongValue} {r : Result ℕ Refusal} → PutValue w [] 0 none (Err cause) → r ≡ Err Refusal·.WrongValue
+      → Answered (outcome (length out) w) out (none ++ out) (answer_number r) (answer_length r)
+  told_refused first e = rw (empty none kept, e, refused w (length out) (sym first.meaning)) (record { number_is = refl; length_is = refl; memory = refl })
 
-  module _ {at : ℕ} (e : r ≡ Done at) where
+  module _ {at : ℕ} (first : PutValue w [] 0 none (Ok at)) where
     pub told_long : length out < at → Answered (outcome (length out) w) out (none ++ out) room_too_small 0
-    told_long h = rw (empty none kept) ((told w out (sym (ap put_meaning e) ∙ first.meaning)).0 h)
+    told_long h = rw (empty none kept) ((told w out first.meaning).0 h)
 
-    pub told_fits : {out' : List ℕ} {r' : Put} → at ≤ length out → length out * 1 < 2 ^ 63 → PutValue w (none ++ out) 0 out' r'
+    pub told_fits : {out' : List ℕ} {r : Result ℕ WrongValue} → at ≤ length out → length out * 1 < 2 ^ 63 → PutValue w (none ++ out) 0 out' r
         → Answered (outcome (length out) w) out out' 0 at
-    told_fits h room p = (told w out (sym (ap put_meaning e) ∙ first.meaning)).1 _ _ h room (rw (empty none kept) at p)
+    told_fits h room p = (told w out first.meaning).1 _ _ h room (rw (empty none kept) at p)

@@ -3,21 +3,21 @@
 #![tactic(auto)]
 
 use std::io::{Read, Write};
-use value::Put;
+use value::WrongValue;
 
 // The text of one value, or its refusal. A value of 65,535 bytes has a text below 262,144, so out is never too small.
 fn show<W: Write>(kind: u8, src: &[u8], out: &mut [u8], output: &mut W) {
     let _ = match value::put_value(out, 0, kind, src) {
-        Put::Done { at } => {
+        Ok(at) => {
             if at <= out.len() {
                 output.write_all(&out[..at])
             } else {
                 Ok(())
             }
         }
-        Put::WrongType => output.write_all(b"refused 11 type"),
-        Put::WrongSize => output.write_all(b"refused 11 size"),
-        Put::WrongContent => output.write_all(b"refused 11 content"),
+        Err(WrongValue::Type) => output.write_all(b"refused 11 type"),
+        Err(WrongValue::Size) => output.write_all(b"refused 11 size"),
+        Err(WrongValue::Content) => output.write_all(b"refused 11 content"),
     };
 }
 

@@ -1,9 +1,9 @@
 -- Zeros at the end, as the loops pass them.
---     dropped_none, dropped_more : none was passed; k bytes more, which hold the number 0
+--     dropped_none, dropped_more, dropped_eight, dropped_byte : none was passed; k bytes more, which hold the number 0; eight; one
 --     kept_at, kept_nothing : the last byte that is left is not zero, or none is left
 use mathlib.Core.Path.{◌≡◌, refl, ap, sym, ◌∙◌}
 use mathlib.Core.List.{List, [], ◌∷◌, ◌++◌}
-use Prim.Native.Nat.{ℕ, ◌+◌, ◌-◌, ◌≤◌, ◌<◌}
+use Prim.Native.Nat.{ℕ, ◌+◌, ◌-◌, ◌*◌, ◌≤◌, ◌<◌}
 use native.Mathlib.Omega.{arith}
 use lib.ListN.{length, take, get_or, replicate, length-take}
 use lib.Seq.{take_all, take-add, drop-cons}
@@ -29,6 +29,12 @@ dropped_more s n k h e d =
     let b = part (n - k) k s in
     let z : without_zeros (take (n - k) s ++ b) ≡ without_zeros (take (n - k) s) = rw (zeros_in b e) (tail_dropped (take (n - k) s) (length b)) in
     record { most = let m = d.most in omega arith; rest = sym z ∙ ap without_zeros (sym (cut s n k h)) ∙ d.rest }
+
+-- the eight before the k eights that are left behind r bytes
+pub dropped_eight : (s : List ℕ) (r k : ℕ) → 0 < k → number_at (r + 8 * (k - 1)) 8 s ≡ 0 → Dropped s (r + 8 * k) → Dropped s (r + 8 * (k - 1))
+dropped_eight s r k h e d =
+    let z : r + 8 * k - 8 ≡ r + 8 * (k - 1) = omega arith in
+    rw z at (dropped_more s (r + 8 * k) 8 (omega arith) (rw z e) d)
 
 -- the one byte at n
 byte_at : (s : List ℕ) (n : ℕ) → n < length s → part n 1 s ≡ get_or s n 0 ∷ []

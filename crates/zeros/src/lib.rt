@@ -6,29 +6,28 @@ ghost use Rattle.rules.specs.Strings.{without_zeros};
 ghost use Rattle.zeros.specs.Dropped.{Dropped};
 
 // Passes zeros from the end, eight in a turn.
+#[tactic(auto, using(crate::proofs::Dropped::dropped_none, crate::proofs::Dropped::dropped_eight))]
 fn pass_eights(s: &[u8]) -> usize
     ensures { Dropped s.now result }
 {
-    let mut n = s.len();
-    while 8 <= n {
-        if octets::eight(s, n - 8) != 0 {
-            return n;
+    let first = s.len() % 8;
+    for k in (0..s.len() / 8).rev() {
+        if octets::eight(s, first + 8 * k) != 0 {
+            return first + 8 * k + 8;
         }
-        n -= 8;
     }
-    n
+    first
 }
 
 // How many bytes come before the zeros at the end.
+#[tactic(auto, using(crate::proofs::Dropped::dropped_byte, crate::proofs::Dropped::kept_at, crate::proofs::Dropped::kept_nothing))]
 pub fn kept(s: &[u8]) -> usize
     ensures { result ≡ length (without_zeros s.now) }
 {
-    let mut n = pass_eights(s);
-    while 0 < n {
-        if s[n - 1] != 0 {
-            return n;
+    for i in (0..pass_eights(s)).rev() {
+        if s[i] != 0 {
+            return i + 1;
         }
-        n -= 1;
     }
-    n
+    0
 }

@@ -1,26 +1,47 @@
 -- `asks_for` meets its contract: each answer is that of the first test that holds.
-use mathlib.Core.Path.{sym, ◌∙◌}
-use Rattle.arguments.proofs.Asking.{asked_input, asked_help, asked_version, asked_unknown, asked_file}
+use Rattle.std.proofs.Common.{refl}
+use Rattle.rules.specs.Bytes.{ascii}
+use Rattle.arguments.specs.Words.{asked}
+use Rattle.arguments.proofs.Asking.{equals, starts}
 use Rattle.arguments.proofs.asks_for.Goals as goal
 
-pub returns-then-is : goal.returns-then-is
-returns-then-is c = asked_input _ (sym c.is.ensures ∙ c.if-is.true)
+pub returns-then-eq : goal.returns-then-eq
+unfolding asked
+returns-then-eq c = rw (equals c.args.bytes.now (ascii "-") c.as_slice.ensures c.eq.ensures c.if-eq.true) refl
 
-pub returns-then-is-2 : goal.returns-then-is-2
-returns-then-is-2 c =
-    asked_help _ (sym c.is.ensures ∙ c.if-is.false) (sym c.is-2.ensures ∙ c.if-is-2.true)
+pub returns-then-eq-2 : goal.returns-then-eq-2
+unfolding asked
+returns-then-eq-2 c =
+    rw (
+      equals c.args.bytes.now (ascii "-") c.as_slice.ensures c.eq.ensures c.if-eq.false,
+      equals c.args.bytes.now (ascii "--help") c.as_slice-2.ensures c.eq-2.ensures c.if-eq-2.true,
+    ) refl
 
-pub returns-then-is-3 : goal.returns-then-is-3
-returns-then-is-3 c =
-    asked_version _ (sym c.is.ensures ∙ c.if-is.false) (sym c.is-2.ensures ∙ c.if-is-2.false)
-    (sym c.is-3.ensures ∙ c.if-is-3.true)
+pub returns-then-eq-3 : goal.returns-then-eq-3
+unfolding asked
+returns-then-eq-3 c =
+    rw (
+      equals c.args.bytes.now (ascii "-") c.as_slice.ensures c.eq.ensures c.if-eq.false,
+      equals c.args.bytes.now (ascii "--help") c.as_slice-2.ensures c.eq-2.ensures c.if-eq-2.false,
+      equals c.args.bytes.now (ascii "--version") c.as_slice-3.ensures c.eq-3.ensures c.if-eq-3.true,
+    ) refl
 
-pub returns-then-same_at : goal.returns-then-same_at
-returns-then-same_at c =
-    asked_unknown _ (sym c.is.ensures ∙ c.if-is.false) (sym c.is-2.ensures ∙ c.if-is-2.false)
-    (sym c.is-3.ensures ∙ c.if-is-3.false) (sym c.same_at.ensures ∙ c.if-same_at.true)
+pub returns-then-starts_with : goal.returns-then-starts_with
+unfolding asked
+returns-then-starts_with c =
+    rw (
+      equals c.args.bytes.now (ascii "-") c.as_slice.ensures c.eq.ensures c.if-eq.false,
+      equals c.args.bytes.now (ascii "--help") c.as_slice-2.ensures c.eq-2.ensures c.if-eq-2.false,
+      equals c.args.bytes.now (ascii "--version") c.as_slice-3.ensures c.eq-3.ensures c.if-eq-3.false,
+      starts c.args.bytes.now (ascii "-") c.starts_with.ensures.value c.if-starts_with.true,
+    ) refl
 
 pub returns : goal.returns
+unfolding asked
 returns c =
-    asked_file _ (sym c.is.ensures ∙ c.if-is.false) (sym c.is-2.ensures ∙ c.if-is-2.false)
-    (sym c.is-3.ensures ∙ c.if-is-3.false) (sym c.same_at.ensures ∙ c.if-same_at.false)
+    rw (
+      equals c.args.bytes.now (ascii "-") c.as_slice.ensures c.eq.ensures c.if-eq.false,
+      equals c.args.bytes.now (ascii "--help") c.as_slice-2.ensures c.eq-2.ensures c.if-eq-2.false,
+      equals c.args.bytes.now (ascii "--version") c.as_slice-3.ensures c.eq-3.ensures c.if-eq-3.false,
+      starts c.args.bytes.now (ascii "-") c.starts_with.ensures.value c.if-starts_with.false,
+    ) refl

@@ -1,38 +1,27 @@
 -- `number_in` meets its contract: digit after digit, the number is that of the rest of the word behind those that were read.
-use mathlib.Core.Path.{sym, ◌∙◌, ap}
-use Prim.Native.Nat.{ℕ, ◌+◌}
-use native.Mathlib.Omega.{arith}
-use lib.ListN.{drop}
-use Rattle.laws.specs.Tests.{holds, fails}
-use Rattle.arguments.proofs.Digits.{rest, no_word, start, on, stop, end, digit_least}
-use mathlib.Core.Bool.{not}
+use Rattle.std.proofs.Common.{◌+◌, ℕ, drop, sym, ap, ◌∙◌, arith}
+use Rattle.std.proofs.lemmas.Bool.Decides.{nat_tests}
+use Rattle.arguments.proofs.Digits.{rest, no_word, start, on, stop}
 use Rattle.arguments.proofs.number_in.Goals as goal
 
-pub returns-then-word-eq0 : goal.returns-then-word-eq0
-returns-then-word-eq0 c = no_word c.args.word.now c.if-word-eq0.true
+pub returns-then-is_empty : goal.returns-then-is_empty
+returns-then-is_empty c = no_word c.args.word.now (grind (arith, nat_tests))
 
-pub loop-i-init : goal.loop-i-init
-loop-i-init c = (omega arith, omega arith, start c.args.word.now c.if-word-eq0.false)
+pub loop-digit-init : goal.loop-digit-init
+loop-digit-init c = record { holds = omega arith; same = start c.args.word.now (λ e. grind (arith, nat_tests)) }
 
-pub returns-then-not-is_digit : goal.returns-then-not-is_digit
-returns-then-not-is_digit c =
-    let l = c.loop-i in let a = c.args in
-    stop a.word.now l.number l.i c.loop-i-test.true (fails c.is_digit.ensures (ap not c.if-not-is_digit.true))
-    ∙ sym l.invariant.2
+pub returns-then-not-is_ascii_digit : goal.returns-then-not-is_ascii_digit
+returns-then-not-is_ascii_digit c =
+    let l = c.loop-digit in
+    stop c.args.word.now l.number l.digit-index c.loop-digit-test.true (sym c.is_ascii_digit.ensures.value ∙ c.if-not-is_ascii_digit.true)
+    ∙ sym l.invariant.same
 
-pub with_digit-number-requires : goal.with_digit-number-requires
-with_digit-number-requires c = digit_least _ (holds c.is_digit.ensures (ap not c.if-not-is_digit.false))
-
-pub loop-i-preserved : goal.loop-i-preserved
-loop-i-preserved c =
-    let l = c.loop-i in
-    let a = c.args in (
-      omega (arith, c.loop-i-test.true),
-      omega (arith, c.with_digit-number.ensures),
-      l.invariant.2 ∙ on a.word.now l.number l.i c.loop-i-test.true (holds c.is_digit.ensures (ap not c.if-not-is_digit.false))
-          ∙ ap (λ (n : ℕ). rest n (drop (l.i + 1) a.word.now)) (sym c.with_digit-number.ensures),
-    )
-
-pub returns : goal.returns
-returns c =
-    let l = c.loop-i in end c.args.word.now l.number l.i c.loop-i-test.false l.invariant.1 ∙ sym l.invariant.2
+pub loop-digit-preserved : goal.loop-digit-preserved
+loop-digit-preserved c =
+    let l = c.loop-digit in
+    let w = c.args.word.now in
+    record {
+      holds = omega (arith, c.with_digit-number.ensures);
+      same = l.invariant.same ∙ on w l.number l.digit-index c.loop-digit-test.true (sym c.is_ascii_digit.ensures.value ∙ c.if-not-is_ascii_digit.false)
+          ∙ ap (λ (n : ℕ). rest n (drop (l.digit-index + 1) w)) (sym c.with_digit-number.ensures);
+    }

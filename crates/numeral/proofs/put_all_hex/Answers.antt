@@ -3,12 +3,8 @@ use mathlib.Core.Path.{◌≡◌}
 use Prim.Native.Nat.{◌+◌, ◌*◌}
 use lib.ListN.{length, take}
 use Rattle.rules.specs.Numerals.{all_hex}
-use Rattle.numeral.proofs.Integers.{width_most}
 use native.Mathlib.Omega.{arith}
 use Rattle.numeral.proofs.put_all_hex.Goals as goal
-
-pub overflow_mul-width : goal.overflow_mul-width
-overflow_mul-width c = omega (arith, c.width.ensures, width_most c.args.src.now)
 
 pub returns : goal.returns
 unfolding all_hex

@@ -14,4 +14,4 @@ returns c =
     let high = tabled_at upper 16 (b / 16) 0 (search rules) in
     let low = tabled_at upper 16 (b % 16) 0 (search rules) in
     rw (byte_pair b c.ranges.b.fits)
-    (wrote_more (omega (arith, c.well_formed)) (rw (c.requires, high) at c.put-place.ensures) (rw (c.requires, low) at c.put.ensures))
+    (wrote_more (omega (arith, c.well_formed)) (rw high at c.put-place.ensures) (rw low at c.put.ensures))

@@ -8,7 +8,7 @@ use Rattle.octets.proofs.some_in.Goals as goal
 use Rattle.octets.proofs.some_in.Goals.{After-wide}
 
 pub loop-i-init : goal.loop-i-init
-loop-i-init c = let z : c.args.w - c.args.w ≡ 0 = omega arith in (search rules, rw z)
+loop-i-init c = let z : c.args.w - c.args.w ≡ 0 = omega arith in rw z
 
 -- the next number fits
 fits : (c : After-wide) → c.wide.result + c.loop-i.v * 256 < 2 ^ 64
@@ -16,16 +16,13 @@ fits c =
     let a = c.args in
     let l = c.loop-i in
     rw c.wide.ensures.0
-    (number_fits a.s.now c.type_inv.s a.p a.w l.i l.v (search rules) (search rules) l.invariant.0 l.invariant.1)
+    (number_fits a.s.now c.type_inv.s a.p a.w l.i l.v c.requires.0 (search rules) l.auto.i l.invariant)
 
 pub loop-i-preserved : goal.loop-i-preserved
 loop-i-preserved c =
     let a = c.args in
-    let l = c.loop-i in (
-      search rules,
-      rw c.wide.ensures.0
-          (number_step a.s.now c.type_inv.s a.p a.w l.i l.v (search rules) (search rules) l.invariant.0 l.invariant.1),
-    )
+    let l = c.loop-i in
+    rw c.wide.ensures.0 (number_step a.s.now c.type_inv.s a.p a.w l.i l.v c.requires.0 (search rules) l.auto.i l.invariant)
 
 pub returns : goal.returns
 returns c =
@@ -33,7 +30,7 @@ returns c =
     let z : c.loop-i.i ≡ 0 = omega arith in
     let w : a.w - 0 ≡ a.w = omega arith in
     let p : a.p + 0 ≡ a.p = omega arith in
-    c.loop-i.invariant.1 ∙ rw (z, w, p)
+    c.loop-i.invariant ∙ rw (z, w, p)
 
 pub overflow_mul-v : goal.overflow_mul-v
 overflow_mul-v c = omega (arith, fits c)

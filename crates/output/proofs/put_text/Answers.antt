@@ -5,15 +5,13 @@ use Rattle.output.proofs.Loops.{left_start, each_step, each_end}
 use borrow.Author.Rules.{rules}
 use Rattle.output.proofs.put_text.Goals as goal
 
-pub loop-i-init : goal.loop-i-init
-loop-i-init c = (search rules, left_start (search rules))
+pub loop-b-init : goal.loop-b-init
+loop-b-init c = left_start (search rules)
 
-pub loop-i-preserved : goal.loop-i-preserved
-loop-i-preserved c = (
-  search rules,
-  each_step (λ l. l) c.args.src.now (λ b. b ∷ []) (λ b bs. refl) c.loop-i.i (search rules) c.loop-i.invariant.1
-      c.put-place.ensures,
-)
+pub loop-b-preserved : goal.loop-b-preserved
+loop-b-preserved c =
+    each_step (λ l. l) c.args.src.now (λ b. b ∷ []) (λ b bs. refl) c.loop-b.b-index (search rules) c.loop-b.invariant
+    c.put-place.ensures
 
 pub returns : goal.returns
-returns c = each_end (λ l. l) c.args.src.now refl c.loop-i.i (search rules) c.loop-i.invariant.1
+returns c = each_end (λ l. l) c.args.src.now refl c.loop-b.b-index (search rules) c.loop-b.invariant

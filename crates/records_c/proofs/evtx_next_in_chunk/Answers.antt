@@ -2,4 +2,4 @@
 use Rattle.records_c.proofs.evtx_next_in_chunk.Goals as goal
 
 pub returns : goal.returns
-returns c = rw c.next_in_chunk.ensures at c.found_at.ensures
+returns c = rw (c.wide.ensures, c.next_in_chunk.ensures) at c.found_at.ensures

@@ -1,8 +1,6 @@
+use Rattle.std.proofs.Common.{◌+◌, ◌*◌, length, ◌%◌}
 use Rattle.zeros.specs.Dropped.{Dropped}
 use Rattle.zeros.proofs.pass_eights.Given as goal
 
-abbrev pub invariant-loop-n : goal.invariant-loop-n
-invariant-loop-n l = Dropped l.s l.n
-
-abbrev pub decreases-loop-n : goal.decreases-loop-n
-decreases-loop-n l = l.n
+abbrev pub invariant-loop-k : goal.invariant-loop-k
+invariant-loop-k l = Dropped l.s (length l.s % 8 + 8 * l.k)

@@ -1,10 +1,10 @@
-use Prim.Native.Nat.{◌-◌, ◌≤◌}
-use lib.ListN.{length}
-use Rattle.crc32.specs.Passing.{Passing}
+use Rattle.std.proofs.Common.{◌≡◌}
+use Rattle.std.specs.Slice.Iter.{chunks_exact_rest, chunks_exact_size}
+use Rattle.crc32.proofs.Passing.{Sixteens}
 use Rattle.crc32.proofs.rows.sixteens.Given as goal
 
-abbrev pub invariant-loop-i : goal.invariant-loop-i
-invariant-loop-i l = (l.i ≤ length l.part) × Passing l.state l.part l.c l.i
-
-abbrev pub decreases-loop-i : goal.decreases-loop-i
-decreases-loop-i l = length l.part - l.i
+abbrev pub invariant-loop-bytes : goal.invariant-loop-bytes
+invariant-loop-bytes l = record {
+  size : chunks_exact_size l.bytes-iterator ≡ 16;
+  passed : Sixteens l.fn.state l.part (chunks_exact_rest l.bytes-iterator) l.c;
+}

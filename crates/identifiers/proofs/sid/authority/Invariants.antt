@@ -1,12 +1,9 @@
 use mathlib.Core.Path.{◌≡◌}
-use Prim.Native.Nat.{◌-◌, ◌^◌, ◌≤◌, ◌<◌}
+use Prim.Native.Nat.{◌^◌, ◌<◌}
 use mathlib.Core.List.{reverse}
-use lib.ListN.{take, drop}
+use lib.ListN.{take}
 use Rattle.rules.specs.Bytes.{number}
 use Rattle.identifiers.proofs.sid.authority.Given as goal
 
-abbrev pub invariant-loop-i : goal.invariant-loop-i
-invariant-loop-i l = (l.i ≤ 6) × (l.a < 256 ^ l.i) × (l.a ≡ number (reverse (take l.i (drop 2 l.src))))
-
-abbrev pub decreases-loop-i : goal.decreases-loop-i
-decreases-loop-i l = 6 - l.i
+abbrev pub invariant-loop-b : goal.invariant-loop-b
+invariant-loop-b l = (l.a < 256 ^ l.b-index) × (l.a ≡ number (reverse (take l.b-index l.bytes)))

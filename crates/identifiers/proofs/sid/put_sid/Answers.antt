@@ -29,7 +29,6 @@ returns-then-k-n c =
       le-leb _ 68 c.if-n-gt68.false,
       eq-eqb _ 0 c.if-n-ne0.false,
       eq-eqb _ 1 c.if-src-ne1.false,
-      ← c.wide-k.ensures.0,
       ne_eqb
           _ _ c.if-k-n.true,
     ) (record { meaning = refl; answer = refl; bytes = refl })
@@ -42,7 +41,6 @@ returns c =
       le-leb _ 68 c.if-n-gt68.false,
       eq-eqb _ 0 c.if-n-ne0.false,
       eq-eqb _ 1 c.if-src-ne1.false,
-      ← c.wide-k.ensures.0,
       eq-eqb _ _
           c.if-k-n.false,
     )
