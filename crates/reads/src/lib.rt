@@ -32,6 +32,8 @@ fn read_from<R: Read, W, E: Write>(
     requires { from ≤ length memory.old }
     ensures inside { from + result ≤ length memory.old }
     ensures kept { take from memory.new ≡ take from memory.old }
+    ensures output { console.new.output ≡ console.old.output }
+    ensures program { console.new.program ≡ console.old.program }
     ensures bytes { Consumes (R.remaining input.old) (R.remaining input.new) (take result (drop from memory.new)) }
 {
     match input.read(&mut memory[from..]) {
@@ -51,6 +53,8 @@ pub fn read<R: Read, W, E: Write>(
     name: &[u8],
 ) -> usize
     ensures inside { IsPrefixLen result memory.new }
+    ensures output { console.new.output ≡ console.old.output }
+    ensures program { console.new.program ≡ console.old.program }
     ensures bytes { Consumes (R.remaining input.old) (R.remaining input.new) (take result memory.new) }
 {
     read_from(memory, 0, input, console, name)
@@ -65,6 +69,8 @@ pub fn fill<R: Read, W, E: Write>(
     name: &[u8],
 ) -> usize
     ensures inside { IsPrefixLen result memory.new }
+    ensures output { console.new.output ≡ console.old.output }
+    ensures program { console.new.program ≡ console.old.program }
     ensures bytes { Consumes (R.remaining input.old) (R.remaining input.new) (take result memory.new) }
 {
     let mut count = 0;

@@ -1,5 +1,5 @@
 // Where a program writes, and what it says of a read or a write that failed: its own name, what failed, and the reason.
-ghost use Rattle.std.specs.Prelude.{◌≤◌, length, IsTrue};
+ghost use Rattle.std.specs.Prelude.{◌≡◌, ◌≤◌, length, IsTrue};
 ghost use Rattle.std.specs.Io.KnownBytes.{Appends};
 
 use std::io::{Cursor, Error, ErrorKind, Write};
@@ -34,8 +34,11 @@ fn put_reason<E: Write>(errors: &mut E, reason: &Error) {
     let _ = errors.write_all(&memory[..end]);
 }
 
-// Says what failed, after the program's own name, and why. Where that cannot be written, nobody can be told.
-pub fn tell<W, E: Write>(console: &mut Console<'_, W, E>, what: &[u8], reason: &Error) {
+// Says what failed, after the program's own name, and why. Where that cannot be written, nobody can be told. What stands on standard output stays.
+pub fn tell<W, E: Write>(console: &mut Console<'_, W, E>, what: &[u8], reason: &Error)
+    ensures output { console.new.output ≡ console.old.output }
+    ensures program { console.new.program ≡ console.old.program }
+{
     let _ = console.errors.write_all(console.program);
     let _ = console.errors.write_all(what);
     let _ = console.errors.write_all(b": ");

@@ -14,5 +14,7 @@ one_more a b c n m xs ys p same q =
 pub loop-count-preserved : goal.loop-count-preserved
 loop-count-preserved g c = record {
   inside = omega (arith, c.read_from-more.ensures.inside, c.read_from-more.auto.memory);
+  output = c.read_from-more.ensures.output ∙ c.loop-count.invariant.output;
+  program = c.read_from-more.ensures.program ∙ c.loop-count.invariant.program;
   bytes = one_more _ _ _ _ _ _ _ c.loop-count.invariant.bytes c.read_from-more.ensures.kept c.read_from-more.ensures.bytes;
 }
