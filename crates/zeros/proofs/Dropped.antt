@@ -1,12 +1,13 @@
 -- Zeros at the end, as the loops pass them.
---     dropped_none, dropped_more, dropped_eight, dropped_byte : none was passed; k bytes more, which hold the number 0; eight; one
+--     dropped_none, dropped_more, dropped_byte : none was passed; k bytes more, which hold the number 0; one
+--     Passing, passing_start, passing_word : the same of a loop over words of eight bytes
 --     kept_at, kept_nothing : the last byte that is left is not zero, or none is left
 use mathlib.Core.Path.{◌≡◌, refl, ap, sym, ◌∙◌}
-use mathlib.Core.List.{List, [], ◌∷◌, ◌++◌}
-use Prim.Native.Nat.{ℕ, ◌+◌, ◌-◌, ◌*◌, ◌≤◌, ◌<◌}
+use mathlib.Core.List.{List, [], ◌∷◌, ◌++◌, append_assoc}
+use Prim.Native.Nat.{ℕ, ◌+◌, ◌-◌, ◌≤◌, ◌<◌}
 use native.Mathlib.Omega.{arith}
-use lib.ListN.{length, take, get_or, replicate, length-take}
-use lib.Seq.{take_all, take-add, drop-cons}
+use lib.ListN.{length, take, drop, get_or, replicate, length-take, length-append}
+use lib.Seq.{take_all, take_at, drop_at, take-add, drop-cons}
 use Rattle.rules.specs.Bytes.{number, part, number_at}
 use Rattle.rules.specs.Strings.{without_zeros}
 use Rattle.laws.specs.Zeros.{tail_dropped, unit_kept}
@@ -30,11 +31,42 @@ dropped_more s n k h e d =
     let z : without_zeros (take (n - k) s ++ b) ≡ without_zeros (take (n - k) s) = rw (zeros_in b e) (tail_dropped (take (n - k) s) (length b)) in
     record { most = let m = d.most in omega arith; rest = sym z ∙ ap without_zeros (sym (cut s n k h)) ∙ d.rest }
 
--- the eight before the k eights that are left behind r bytes
-pub dropped_eight : (s : List ℕ) (r k : ℕ) → 0 < k → number_at (r + 8 * (k - 1)) 8 s ≡ 0 → Dropped s (r + 8 * k) → Dropped s (r + 8 * (k - 1))
-dropped_eight s r k h e d =
-    let z : r + 8 * k - 8 ≡ r + 8 * (k - 1) = omega arith in
-    rw z at (dropped_more s (r + 8 * k) 8 (omega arith) (rw z e) d)
+-- The loop over the words from the end: those that are left, and the bytes in front that fill no word, are what was not passed.
+pub record Passing (s front left : List ℕ) (n : ℕ) : Type 0 where
+  pub dropped : Dropped s n
+  pub there : take n s ≡ front ++ left
+
+pub passing_start : (s front left : List ℕ) → s ≡ front ++ left → Passing s front left (length s)
+passing_start s front left e = record { dropped = dropped_none s; there = take_all (length s) s (omega arith) ∙ e }
+
+module _ {s front left : List ℕ} (more word : List ℕ) {n : ℕ} (p : Passing s front left n) (e : left ≡ more ++ word) (l : length word ≡ 8) where
+  ends : take n s ≡ (front ++ more) ++ word
+  ends = p.there ∙ ap (front ++◌) e ∙ sym (append_assoc front more word)
+
+  pub long : n ≡ length (front ++ more) + 8
+  long = let m = p.dropped.most in let t : length (take n s) ≡ n = rw length-take (omega arith) in
+      sym t ∙ ap length ends ∙ length-append (front ++ more) word ∙ ap (length (front ++ more) +◌) l
+
+  same_cut : take (n - 8) s ++ part (n - 8) 8 s ≡ (front ++ more) ++ word
+  same_cut = let h = long in sym (cut s n 8 (omega arith)) ∙ ends
+
+  before_length : length (take (n - 8) s) ≡ n - 8
+  before_length = let m = p.dropped.most in rw length-take (omega arith)
+
+  front_length : length (front ++ more) ≡ n - 8
+  front_length = let h = long in omega arith
+
+  pub passing_word : number_at 0 8 word ≡ 0 → Passing s front more (n - 8)
+  passing_word z =
+      let same : part (n - 8) 8 s ≡ word =
+      sym (drop_at (take (n - 8) s) (part (n - 8) 8 s) (n - 8) before_length) ∙ ap (drop (n - 8)) same_cut
+      ∙ drop_at (front ++ more) word (n - 8) front_length in
+      let h = long in
+      record {
+        dropped = dropped_more s n 8 (omega arith) (ap number (same ∙ sym (take_all 8 word (omega arith))) ∙ z) p.dropped;
+        there = sym (take_at (take (n - 8) s) (part (n - 8) 8 s) (n - 8) before_length) ∙ ap (take (n - 8)) same_cut
+            ∙ take_at (front ++ more) word (n - 8) front_length;
+      }
 
 -- the one byte at n
 byte_at : (s : List ℕ) (n : ℕ) → n < length s → part n 1 s ≡ get_or s n 0 ∷ []

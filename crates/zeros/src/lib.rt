@@ -6,17 +6,17 @@ ghost use Rattle.rules.specs.Strings.{without_zeros};
 ghost use Rattle.zeros.specs.Dropped.{Dropped};
 
 // Passes zeros from the end, eight in a turn.
-#[tactic(auto, using(crate::proofs::Dropped::dropped_none, crate::proofs::Dropped::dropped_eight))]
 fn pass_eights(s: &[u8]) -> usize
     ensures { Dropped s.now result }
 {
-    let first = s.len() % 8;
-    for k in (0..s.len() / 8).rev() {
-        if octets::eight(s, first + 8 * k) != 0 {
-            return first + 8 * k + 8;
+    let mut n = s.len();
+    for word in s.rchunks_exact(8) {
+        if octets::eight(word, 0) != 0 {
+            return n;
         }
+        n -= 8;
     }
-    first
+    n
 }
 
 // How many bytes come before the zeros at the end.
