@@ -113,5 +113,13 @@ pub fn same_at(s: &[u8], i: usize, known: &[u8]) -> bool
     if s.len() < i {
         return known.len() == 0;
     }
-    s[i..].starts_with(known)
+    if s.len() - i < known.len() {
+        return false;
+    }
+    for (k, &b) in known.iter().enumerate() {
+        if s[i + k] != b {
+            return false;
+        }
+    }
+    true
 }
